@@ -82,3 +82,15 @@ joined-more xs a i v from few e byte =
 pub field-one : (xs : List ℕ) (p : ℕ) → field xs p 1 ≡ bit xs p
 unfolding number
 field-one xs p = rw add-zero (omega arith)
+
+-- one byte more at the end of a field of whole bytes
+field-byte : (xs : List ℕ) (a n : ℕ) → getD xs (a + n) 0 < 256 → field xs (8 * a) (8 * n + 8) ≡ field xs (8 * a) (8 * n) * 256 + getD xs (a + n) 0
+field-byte xs a n byte =
+    let there : 8 * a + 8 * n ≡ 8 * (a + n) = omega arith in
+    number-split (bit xs) (8 * a) (8 * n) 8 ∙ ap (λ v. field xs (8 * a) (8 * n) * 256 + v) (rw there (byte-is-field xs (a + n) byte))
+
+-- five bytes
+pub field-five : (xs : List ℕ) (a : ℕ) → getD xs a 0 < 256 → getD xs (a + 1) 0 < 256 → getD xs (a + 2) 0 < 256 → getD xs (a + 3) 0 < 256 → getD xs (a + 4) 0 < 256
+    → field xs (8 * a) 40 ≡ getD xs a 0 * 2 ^ 32 + getD xs (a + 1) 0 * 2 ^ 24 + getD xs (a + 2) 0 * 2 ^ 16 + getD xs (a + 3) 0 * 2 ^ 8 + getD xs (a + 4) 0
+field-five xs a b0 b1 b2 b3 b4 =
+    omega (arith, byte-is-field xs a b0, field-byte xs a 1 b1, field-byte xs a 2 b2, field-byte xs a 3 b3, field-byte xs a 4 b4)
