@@ -39,7 +39,7 @@ field-lt xs p w = number-lt (bit xs) (bit-lt xs) p w
 pub field-within : (xs : List ℕ) (b o w r p : ℕ) → b + o ≡ p → field xs p w ≡ field xs b (o + w + r) / 2 ^ r % 2 ^ w
 field-within xs b o w r p e =
     let whole : field xs b (o + w + r) / 2 ^ r ≡ field xs b (o + w) =
-          ap (λ n. n / 2 ^ r) (number-split (bit xs) b (o + w) r) ∙ shr-high (field xs b (o + w)) r (field xs (b + (o + w)) r) (field-lt xs (b + (o + w)) r) in
+    ap (λ n. n / 2 ^ r) (number-split (bit xs) b (o + w) r) ∙ shr-high (field xs b (o + w)) r (field xs (b + (o + w)) r) (field-lt xs (b + (o + w)) r) in
     sym (ap (λ n. n % 2 ^ w) (whole ∙ number-split (bit xs) b o w) ∙ mod-low (field xs b o) w (field xs (b + o) w) (field-lt xs (b + o) w) ∙ ap (λ q. field xs q w) e)
 
 -- one more bit of a number

@@ -78,39 +78,41 @@ pub wrote-part : (xs : List ℕ) (p w v n : ℕ) → 1 ≤ w → p % 8 + w ≤ 8
     → n ≡ with-part (getD xs (p / 8) 0) (8 - p % 8 - w) w v → Wrote xs (set xs (p / 8) n) p w v
 unfolding bit
 wrote-part xs p w v n some h l small e = record {
-      long = length-set xs (p / 8) n;
-      holds = field-in-byte (set xs (p / 8) n) p w h ∙ rw (getD-set-same xs (p / 8) n 0 in′, e) (part-mid b k w v small);
-      before = λ i j. ⊎-elim (λ (s : i / 8 ≡ p / 8). bit-set-same xs (p / 8) n i in′ s ∙ rw (e, ← s) (bit-above _ _ (k + w) (7 - i % 8) (omega arith) (part-high _ k w v small))) (bit-set-other xs (p / 8) n i) (cases-eq (i / 8) (p / 8));
-      behind = λ i j. ⊎-elim (λ (s : i / 8 ≡ p / 8). bit-set-same xs (p / 8) n i in′ s ∙ rw (e, ← s) (bit-below _ _ k (7 - i % 8) (omega arith) (part-low _ k w v small))) (bit-set-other xs (p / 8) n i) (cases-eq (i / 8) (p / 8));
-      rest = λ q j. getD-set-other xs (p / 8) q n 0 (λ s. omega arith);
-    }
+  long = length-set xs (p / 8) n;
+  holds = field-in-byte (set xs (p / 8) n) p w h ∙ rw (getD-set-same xs (p / 8) n 0 in′, e) (part-mid b k w v small);
+  before = λ i j. ⊎-elim (λ (s : i / 8 ≡ p / 8). bit-set-same xs (p / 8) n i in′ s ∙ rw (e, ← s) (bit-above _ _ (k + w) (7 - i % 8) (omega arith) (part-high _ k w v small))) (bit-set-other xs (p / 8) n i) (cases-eq (i / 8) (p / 8));
+  behind = λ i j. ⊎-elim (λ (s : i / 8 ≡ p / 8). bit-set-same xs (p / 8) n i in′ s ∙ rw (e, ← s) (bit-below _ _ k (7 - i % 8) (omega arith) (part-low _ k w v small))) (bit-set-other xs (p / 8) n i) (cases-eq (i / 8) (p / 8));
+  rest = λ q j. getD-set-other xs (p / 8) q n 0 (λ s. omega arith);
+}
   where
     b : ℕ
     b = getD xs (p / 8) 0
+
     k : ℕ
     k = 8 - p % 8 - w
+
     in′ : p / 8 < length xs
     in′ = omega arith
 
 pub wrote-none : (xs : List ℕ) (p v w : ℕ) → v < 2 ^ w → Wrote xs xs p 0 (v / 2 ^ w)
 unfolding number
 wrote-none xs p v w small = record {
-      long = refl;
-      holds = sym (div-eq-of-lt small);
-      before = λ i _. refl;
-      behind = λ i _. refl;
-      rest = λ q _. refl;
-    }
+  long = refl;
+  holds = sym (div-eq-of-lt small);
+  before = λ i _. refl;
+  behind = λ i _. refl;
+  rest = λ q _. refl;
+}
 
 -- two writes, one behind the other, are one
 pub wrote-more : (xs ys zs : List ℕ) (p a t u v : ℕ) → Wrote xs ys p a u → Wrote ys zs (p + a) t v → Wrote xs zs p (a + t) (u * 2 ^ t + v)
 wrote-more xs ys zs p a t u v f g = record {
-      long = g .long ∙ f .long;
-      holds = number-split (bit zs) p a t ∙ ap₂ (λ x y. x * 2 ^ t + y) (number-same (bit ys) (bit zs) p a (λ i _ l. g .before i l) ∙ f .holds) (g .holds);
-      before = λ i l. g .before i (omega arith) ∙ f .before i l;
-      behind = λ i l. g .behind i (omega arith) ∙ f .behind i (omega arith);
-      rest = λ q l. g .rest q (omega arith) ∙ f .rest q (omega arith);
-    }
+  long = g .long ∙ f .long;
+  holds = number-split (bit zs) p a t ∙ ap₂ (λ x y. x * 2 ^ t + y) (number-same (bit ys) (bit zs) p a (λ i _ l. g .before i l) ∙ f .holds) (g .holds);
+  before = λ i l. g .before i (omega arith) ∙ f .before i l;
+  behind = λ i l. g .behind i (omega arith) ∙ f .behind i (omega arith);
+  rest = λ q l. g .rest q (omega arith) ∙ f .rest q (omega arith);
+}
 
 -- the digits of v down to the lowest r, from those down to the lowest r + t
 digits-more : (v r t : ℕ) → v / 2 ^ (r + t) * 2 ^ t + v / 2 ^ r % 2 ^ t ≡ v / 2 ^ r

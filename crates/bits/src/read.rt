@@ -32,7 +32,11 @@ fn byte_or_zero(bytes: &[u8], i: usize) -> u64
     ensures value { λ r. ⌜ r ≡ getD (now (bytes .entry)) i 0 ⌝ }
     ensures bound { λ r. ⌜ r < 256 ⌝ }
 {
-    if i < bytes.len() { u64::from(bytes[i]) } else { 0 }
+    if i < bytes.len() {
+        u64::from(bytes[i])
+    } else {
+        0
+    }
 }
 
 // The `width` bits from `place` on, as a number; at most five bytes are read.
@@ -44,6 +48,10 @@ pub fn read_field(bytes: &[u8], place: usize, width: usize) -> u64
     ensures bound { λ r. ⌜ r < 2 ^ width ⌝ }
 {
     let first = place / 8;
-    let joined = if first + 5 <= bytes.len() { five_bytes(bytes, first) } else { last_bytes(bytes, first) };
+    let joined = if first + 5 <= bytes.len() {
+        five_bytes(bytes, first)
+    } else {
+        last_bytes(bytes, first)
+    };
     (joined >> (40 - place % 8 - width)) % (1u64 << width)
 }

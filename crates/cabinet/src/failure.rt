@@ -26,7 +26,10 @@ pub impl fmt::Display for Expected as ExpectedDisplay {
     fn fmt<W: fmt::Write>(&self, f: &mut fmt::Formatter<W>) -> fmt::Result {
         match self {
             Expected::Handle => write!(f, "`handle N`, with N from 0 to 4294967295"),
-            Expected::Record => write!(f, "`POINT VALUE`, a point from 0 to 65535 and a value from -2147483648 to 2147483647"),
+            Expected::Record => write!(
+                f,
+                "`POINT VALUE`, a point from 0 to 65535 and a value from -2147483648 to 2147483647"
+            ),
             Expected::Bytes => write!(f, "hexadecimal bytes, two digits each"),
         }
     }
@@ -35,10 +38,16 @@ pub impl fmt::Display for Expected as ExpectedDisplay {
 pub impl fmt::Display for Failure as FailureDisplay {
     fn fmt<W: fmt::Write>(&self, f: &mut fmt::Formatter<W>) -> fmt::Result {
         match self {
-            Failure::Usage => write!(f, "expected `encode`, `decode` or `ask POINT`; without a word it explains them"),
+            Failure::Usage => write!(
+                f,
+                "expected `encode`, `decode` or `ask POINT`; without a word it explains them"
+            ),
             Failure::Point => write!(f, "expected `ask POINT`, with a point from 0 to 65535"),
             Failure::Line(line, expected) => write!(f, "line {line}: expected {expected}"),
-            Failure::NoHandle => write!(f, "end of input: expected `handle N`, with N from 0 to 4294967295"),
+            Failure::NoHandle => write!(
+                f,
+                "end of input: expected `handle N`, with N from 0 to 4294967295"
+            ),
             Failure::Memory => write!(f, "no memory"),
             Failure::Stream(e) => write!(f, "{e}"),
         }

@@ -5,9 +5,9 @@ ghost use Rattle.cabinet.specs.Digits.{digit-value};
 ghost use Rattle.std.specs.declared.option.Option.the-variants.{Some};
 ghost use Rattle.std.specs.Options.{Cases};
 use crate::failure::Failure;
-use std::alloc::Global;
 use crate::failure::FailureFromAlloc;
 use crate::failure::FailureFromRefused;
+use std::alloc::Global;
 
 // The value of a digit, either case.
 fn digit_value(digit: u8) -> Option<u8>
@@ -28,7 +28,11 @@ fn digit_of(value: u8) -> u8
     ensures reads { λ r. ⌜ digit-value r ≡ Some value ⌝ }
     ensures upper { λ r. ⌜ r < 71 ⌝ }
 {
-    if value < 10 { b'0' + value } else { b'A' + (value - 10) }
+    if value < 10 {
+        b'0' + value
+    } else {
+        b'A' + (value - 10)
+    }
 }
 
 // The bytes that a word spells, pushed behind those that are there; false if it spells none.
@@ -38,7 +42,8 @@ pub fn push_word(bytes: &mut Vec<u8>, word: &str) -> Result<bool, Failure> {
         return Ok(false);
     }
     for i in 0..digits.len() / 2 {
-        let (Some(high), Some(low)) = (digit_value(digits[2 * i]), digit_value(digits[2 * i + 1])) else {
+        let (Some(high), Some(low)) = (digit_value(digits[2 * i]), digit_value(digits[2 * i + 1]))
+        else {
             return Ok(false);
         };
         bytes.push(16 * high + low)?;

@@ -10,11 +10,11 @@ use crate::commands::encode;
 use crate::commands::help;
 use crate::failure::Failure;
 use crate::failure::FailureDisplay;
+use crate::failure::FailureFromAlloc;
+use crate::failure::FailureFromIo;
 use std::alloc::Global;
 use std::env;
 use std::error::AnyError;
-use crate::failure::FailureFromAlloc;
-use crate::failure::FailureFromIo;
 
 fn run(rt: &LibcRuntime, heap: Global) -> Result<(), Failure> {
     let args: Vec<String> = env::args(rt)?.skip(1).collect(heap)?;

@@ -17,9 +17,9 @@ returns c =
     let b = 8 * (p / 8) in
     let joined = c .if-first-bytes .joined in
     let five : joined ≡ field xs b 40 = elim (c .if-first-bytes .came) [
-            then-first-bytes v ↦ v .joined-is ∙ v .five-bytes-joined .ensures
-          | else-first-bytes v ↦ v .joined-is ∙ v .last-bytes-joined .ensures
-          ] in
+      | then-first-bytes v ↦ v .joined-is ∙ v .five-bytes-joined .ensures
+      | else-first-bytes v ↦ v .joined-is ∙ v .last-bytes-joined .ensures
+    ] in
     let all : joined ≡ field xs b (p % 8 + w + r) = five ∙ ap (field xs b) (omega arith) in
     let one = one-shl w 64 (omega arith) in
     record {
