@@ -98,9 +98,9 @@ pub fn runs(
     for (index, (call, refusal)) in script.iter().enumerate() {
         let before = (size_of(&stage), buffer);
         let (next, answer) = after(stage, &mut buffer, *call)?;
-        check_eq(answer, *refusal).note(index)?;
+        check_eq(answer, *refusal).note(format_args!("call {index}"))?;
         if answer.is_some() {
-            check_eq((size_of(&next), buffer), before).note(index)?;
+            check_eq((size_of(&next), buffer), before).note(format_args!("call {index}"))?;
         }
         stage = next;
     }
