@@ -1,5 +1,7 @@
 // Fields of up to 32 bits at any bit place of lent bytes, most significant bit first.
 // Inner code: its calls ask what their proved callers show, and refuse nothing.
+#![tactic(auto)]
+
 mod read;
 mod signed;
 mod write;

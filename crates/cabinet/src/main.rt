@@ -1,4 +1,6 @@
 // The program: pictures from readings, readings from pictures, and the sequencer's question.
+#![tactic(auto)]
+
 mod commands;
 mod failure;
 mod hex;

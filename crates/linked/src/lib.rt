@@ -1,4 +1,6 @@
 // A memory part that is a list linked by index, in nodes that the caller lends.
+#![tactic(auto)]
+
 mod list;
 mod node;
 

@@ -1,4 +1,6 @@
 // The parts of the store: where versions are kept, in memory that the caller lends. Each has the meaning that the crate `version` gives a part.
+#![tactic(auto)]
+
 mod packed;
 mod rows;
 mod table;

@@ -1,4 +1,6 @@
 // The parts of the store at their edges. Expected answers and bytes are worked out by hand from the meaning of a part.
+#![tactic(auto)]
+
 #[cfg(test)]
 mod alike;
 #[cfg(test)]

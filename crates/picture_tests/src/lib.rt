@@ -1,4 +1,6 @@
 // The public calls of the crate `picture` at their edges. Expected bytes and numbers are worked out by hand from docs/PICTURE.md.
+#![tactic(auto)]
+
 #[cfg(test)]
 mod common;
 #[cfg(test)]

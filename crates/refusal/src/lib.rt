@@ -1,4 +1,6 @@
 // Why a call was refused: one closed list for the whole cabinet, each case with its number.
+#![tactic(auto)]
+
 ghost use Rattle.std.specs.Prelude.{◌≡◌};
 ghost use Rattle.refusal.specs.Cases.{case_of};
 

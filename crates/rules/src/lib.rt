@@ -1,4 +1,6 @@
 // Rule books: what becomes of a value when a rule is applied to it.
+#![tactic(auto)]
+
 mod book;
 mod claim;
 mod meter;

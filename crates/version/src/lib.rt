@@ -1,4 +1,6 @@
 // Versions, their order, and what a part of the store means.
+#![tactic(auto)]
+
 mod limits;
 mod meaning;
 mod order;

@@ -11,7 +11,7 @@ loop-i-init c =
 
 pub loop-i-preserved : goal.loop-i-preserved
 loop-i-preserved c =
-    let b = c.byte-or-zero.ensures in
+    let b = c.byte_or_zero.ensures in
     rw b.value (joined_more c.args.bytes.now c.args.first c.loop-i.i c.loop-i.joined (omega arith) (omega arith) c.loop-i.invariant (rw (← b.value) b.bound)).0
 
 pub returns : goal.returns

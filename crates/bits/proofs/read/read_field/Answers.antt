@@ -14,8 +14,8 @@ returns c =
     let b = 8 * (p / 8) in
     let joined = c.if-first-bytes.joined in
     let five : joined ≡ field xs b 40 = elim c.if-first-bytes.branch [
-      | then-first-bytes v ↦ v.joined-is ∙ v.five-bytes-joined.ensures
-      | else-first-bytes v ↦ v.joined-is ∙ v.last-bytes-joined.ensures
+      | then-first-bytes v ↦ v.joined-is ∙ v.five_bytes-joined.ensures
+      | else-first-bytes v ↦ v.joined-is ∙ v.last_bytes-joined.ensures
     ] in
     let all : joined ≡ field xs b (p % 8 + w + r) = five ∙ ap (field xs b) (omega arith) in
     let one = one_shl w 64 (omega arith) in

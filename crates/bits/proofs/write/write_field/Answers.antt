@@ -9,7 +9,7 @@ loop-done-init c = (rw sub-zero (wrote_none c.args.bytes.now c.args.place c.args
 
 pub loop-done-preserved : goal.loop-done-preserved
 loop-done-preserved c = (
-  wrote_turn c.args.bytes.now c.loop-done.bytes c.write-part.new.bytes c.args.place c.args.width c.args.value c.loop-done.done c.min-part.result _
-      (search rules) c.loop-done.invariant.0 (rw (one_shl c.min-part.result 64 (search rules))) c.write-part.ensures,
+  wrote_turn c.args.bytes.now c.loop-done.bytes c.write_part.new.bytes c.args.place c.args.width c.args.value c.loop-done.done c.min-part.result _
+      (search rules) c.loop-done.invariant.0 (rw (one_shl c.min-part.result 64 (search rules))) c.write_part.ensures,
   search rules,
 )

@@ -20,4 +20,4 @@ loop-found-preserved g c = λ s.
 pub returns : goal.returns
 returns g c = λ s.
     let vs = g.P.Part.versions c.args.part.now in
-    sym (look_none vs c.loop-found.from c.args.number (sym (c.in-default.ensures.answer s))) ∙ c.loop-found.invariant s
+    sym (look_none vs c.loop-found.from c.args.number (sym (c.in_default.ensures.answer s))) ∙ c.loop-found.invariant s
