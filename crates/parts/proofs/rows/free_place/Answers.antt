@@ -13,7 +13,7 @@ pub returns : goal.returns
 returns g c =
     let vs = g.R.Rows.list c.args.rows.now in
     let v = c.args.version in
-    let placed : memory_place vs v ≡ true = sym c.if-not-is-free.ensures in
+    let placed : memory_place vs v ≡ true = sym c.if-not-is_free.ensures in
     let parts = and_parts (numbered v) (not (held vs v)) placed in
     let free : held vs v ≡ false = not-true (held vs v) parts.1 in
     let other : length vs ≡ c.args.limit → ⊥ = λ e. c.if-len-limit.false (c.len.ensures ∙ e) in

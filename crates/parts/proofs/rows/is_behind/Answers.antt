@@ -21,7 +21,7 @@ returns-then-version-ne0 g c =
           let x = w.row.result in
           let some : 0 < length vs = omega (arith, c.len-count.ensures, w.if-count-eq0.false) in
           let read : get_or vs (length vs - 1) x ≡ x = ap (λ n. get_or vs (n - 1) x) (sym c.len-count.ensures) ∙ sym w.row.ensures in
-          let test : w.is-before-behind.result ≡ before x v = w.is-before-behind.ensures ∙ ap (λ p. ahead p w.place-else-count-eq0.result) w.place.ensures ∙ ap (ahead (place_of x)) w.place-else-count-eq0.ensures in
+          let test : w.is_before-behind.result ≡ before x v = w.is_before-behind.ensures ∙ ap (λ p. ahead p w.place-else-count-eq0.result) w.place.ensures ∙ ap (ahead (place_of x)) w.place-else-count-eq0.ensures in
           w.behind-is ∙ test ∙ ap (λ y. before y v) (sym read) ∙ ap (λ o. behind o v) (sym (last_at vs x some))
     ] in
     is ∙ ap (λ b. b && behind (last vs) v) (sym one)

@@ -19,7 +19,7 @@ returns-then-version-ne0 g c =
           let x = w.row.result in
           let inside : rank_of vs (place_of v) < length vs = omega (arith, c.requires.ranked) in
           let read : get_or vs (rank_of vs (place_of v)) x ≡ x = ap (λ n. get_or vs n x) (sym c.requires.ranked) ∙ sym w.row.ensures in
-          let test : w.is-before.result ≡ before v x = w.is-before.ensures ∙ ap (λ p. ahead p w.place-then-at-len.result) w.place.ensures ∙ ap (ahead (place_of v)) w.place-then-at-len.ensures in
+          let test : w.is_before.result ≡ before v x = w.is_before.ensures ∙ ap (λ p. ahead p w.place-then-at-len.result) w.place.ensures ∙ ap (ahead (place_of v)) w.place-then-at-len.ensures in
           w.held-is ∙ ap not (test ∙ ap (before v) (sym read)) ∙ sym (held_at_rank vs v x (sorts vs c.requires.ordered) inside)
       | else-at-len w ↦ w.held-is ∙ le-ltb c.args.at c.len.result w.if-at-len.false ∙ sym (held_past vs v v (sorts vs c.requires.ordered) (omega (arith, c.requires.ranked)))
     ] in

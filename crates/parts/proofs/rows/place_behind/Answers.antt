@@ -10,7 +10,7 @@ pub returns : goal.returns
 returns g c =
     let vs = g.R.Rows.list c.args.rows.now in
     let v = c.args.version in
-    let placed : flash_place vs v ≡ true = sym c.if-not-is-behind.ensures in
+    let placed : flash_place vs v ≡ true = sym c.if-not-is_behind.ensures in
     let parts = and_parts (numbered v) (behind (last vs) v) placed in
     let other : length vs ≡ c.args.limit → ⊥ = λ e. c.if-count-limit.false (c.len-count.ensures ∙ e) in
     let room : length vs < c.args.limit = omega (arith, c.requires.within) in

@@ -11,10 +11,10 @@ returns g c =
     let limit = g.P.Part.most f.below in
     let v = c.args.version in
     let below = c.append.ensures in
-    let ok = c.in-ok-append.ensures.answer in
+    let ok = c.in_ok-append.ensures.answer in
     record {
       sound = λ s.
-          let after = stays vs (vs ++ (v ∷ [])) (g.P.Part.versions c.append.new.self) limit (g.P.Part.most c.append.new.self) v (flash_answer vs limit v) c.in-ok-append.field-0
+          let after = stays vs (vs ++ (v ∷ [])) (g.P.Part.versions c.append.new.self) limit (g.P.Part.most c.append.new.self) v (flash_answer vs limit v) c.in_ok-append.field-0
           (ok s.0) (below.list s.0) below.same (kept_flash vs limit v s.1) (bounds_append vs v) f.bounds c.widen.result s.2 c.widen.ensures in
           (below.sound s.0, after.0, after.1);
       answer = λ s. ok s.0;

@@ -10,10 +10,10 @@ returns g c =
     let limit = g.P.Part.most f.below in
     let v = c.args.version in
     let below = c.take.ensures in
-    let ok = c.in-ok-take.ensures.answer in
+    let ok = c.in_ok-take.ensures.answer in
     record {
       sound = λ s.
-          let after = stays vs (insert vs v) (g.P.Part.versions c.take.new.self) limit (g.P.Part.most c.take.new.self) v (memory_answer vs limit v) c.in-ok-take.field-0
+          let after = stays vs (insert vs v) (g.P.Part.versions c.take.new.self) limit (g.P.Part.most c.take.new.self) v (memory_answer vs limit v) c.in_ok-take.field-0
           (ok s.0) (below.list s.0) below.same (kept_memory vs limit v s.1) (bounds_insert vs v) f.bounds c.widen.result s.2 c.widen.ensures in
           (below.sound s.0, after.0, after.1);
       answer = λ s. ok s.0;

@@ -21,8 +21,8 @@ module _ (l : LinkedList) (g : Gap) (v : Version) where
         free = not-true (held vs v) both.1;
       }
 
-pub put-behind-requires : goal.put-behind-requires
-put-behind-requires c =
+pub put_behind-requires : goal.put_behind-requires
+put_behind-requires c =
     let l = c.args.self.now in
     let h = ready l c.args.gap c.args.version c.requires.gap c.requires.placed c.requires.room in record {
       room = c.requires.room;
@@ -31,8 +31,8 @@ put-behind-requires c =
       chained = (put_behind l.nodes.now l.first c.args.version l.used c.args.gap h c.in-Some.i c.in-Some.is).chained;
     }
 
-pub put-first-requires : goal.put-first-requires
-put-first-requires c =
+pub put_first-requires : goal.put_first-requires
+put_first-requires c =
     let l = c.args.self.now in
     let h = ready l c.args.gap c.args.version c.requires.gap c.requires.placed c.requires.room in record {
       room = c.requires.room;

@@ -10,6 +10,6 @@ returns c =
     let l = c.args.self.now in
     let vs = versions l.nodes.now l.first in
     record {
-      kept = c.first-from.ensures.kept;
-      answer = λ s. c.of-point.ensures ∙ ap (only c.args.point) (c.first-from.ensures.answer s) ∙ sym (newest_is vs c.args.point c.args.number (sorts vs l.ordered));
+      kept = c.first_from.ensures.kept;
+      answer = λ s. c.of_point.ensures ∙ ap (only c.args.point) (c.first_from.ensures.answer s) ∙ sym (newest_is vs c.args.point c.args.number (sorts vs l.ordered));
     }

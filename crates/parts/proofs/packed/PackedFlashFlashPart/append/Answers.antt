@@ -21,9 +21,9 @@ pub invariant-of-self : goal.invariant-of-self
 invariant-of-self c =
     let s = c.args.self.now in
     let v = c.args.version in
-    let ys = c.write-record.new.bytes in
-    let w = written s.bytes.now ys c.take-bytes.result.now s.used v (ap (λ b. b.now) c.take-bytes.ensures.value) c.write-record.ensures.wrote c.write-record.ensures.says in
-    let kept = subst (λ l. Kept l s.limit) (sym w.more) c.in-ok-place-behind.ensures.1.kept in
+    let ys = c.write_record.new.bytes in
+    let w = written s.bytes.now ys c.take-bytes.result.now s.used v (ap (λ b. b.now) c.take-bytes.ensures.value) c.write_record.ensures.wrote c.write_record.ensures.says in
+    let kept = subst (λ l. Kept l s.limit) (sym w.more) c.in_ok-place_behind.ensures.1.kept in
     let exact = subst (Packs ys) (sym w.more) (packs_more s.bytes.now ys s.used v (versions_in s.bytes.now s.used) s.counted w.wrote s.exact) in
     let roomy : s.limit ≡ room (length ys) = s.roomy ∙ ap room (sym w.wrote.long) in
     (roomy, (length_versions ys (s.used + 1), (kept.within, (kept.ordered, (kept.proper, (exact, tt))))))
@@ -33,6 +33,6 @@ returns c =
     let s = c.args.self.now in
     let v = c.args.version in
     let vs = versions_in s.bytes.now s.used in
-    let w = written s.bytes.now c.write-record.new.bytes c.take-bytes.result.now s.used v (ap (λ b. b.now) c.take-bytes.ensures.value) c.write-record.ensures.wrote c.write-record.ensures.says in
-    let taken = sym c.in-ok-place-behind.ensures.0 in
+    let w = written s.bytes.now c.write_record.new.bytes c.take-bytes.result.now s.used v (ap (λ b. b.now) c.take-bytes.ensures.value) c.write_record.ensures.wrote c.write_record.ensures.says in
+    let taken = sym c.in_ok-place_behind.ensures.0 in
     record { sound = λ _. tt; answer = λ _. taken; list = λ _. w.more ∙ ap (λ r. left_by r vs (vs ++ v ∷ [])) taken; same = refl; bits = w.wrote }

@@ -5,4 +5,4 @@ use Rattle.parts.proofs.packed.PackedFlashRows.row.Goals as goal
 pub returns : goal.returns
 returns c =
     let s = c.args.self.now in
-    c.read-record.ensures ∙ sym (version_of s.bytes.now s.used c.args.index c.read-record.result (omega (arith, s.counted)))
+    c.read_record.ensures ∙ sym (version_of s.bytes.now s.used c.args.index c.read_record.result (omega (arith, s.counted)))
