@@ -1,6 +1,6 @@
 use Rattle.std.proofs.Common.{◌≡◌, ℕ, suc, ◌+◌, ◌-◌, ◌<◌, ◌≤◌, List, length, get_or, take, set, sym, ap, ◌∙◌, ⊎_elim, arith}
 use Rattle.std.specs.List.{insert}
-use Rattle.std.proofs.lemmas.List.Edits.{length_insert, get_or-insert_below, get_or-insert_at, get_or-insert_above}
+use Rattle.std.proofs.lemmas.List.Edits.{length-insert, get_or-insert_below, get_or-insert_at, get_or-insert_above}
 use Rattle.std.proofs.lemmas.List.{same_lists, length-set, length-take-le, get_or-set_same, get_or-set_other, get_or_default, get_or-take}
 use Rattle.std.proofs.lemmas.Bool.{cases_eq, cases_lt}
 use Rattle.version.specs.declared.types.Version.{Version}
@@ -30,7 +30,7 @@ filled : (xs ys : List Version) (at n : ℕ) (v : Version) → n < length xs →
 filled xs ys at n v l same h low high =
     let ln : length (take n ys) ≡ n = length-take-le n ys (omega arith) in
     same_lists (take (n + 1) (set xs at v)) (insert (take n ys) at v)
-    (length-take-le (n + 1) (set xs at v) (omega (arith, length-set xs at v)) ∙ sym (length_insert (take n ys) at v (omega arith) ∙ ap (λ m. m + 1) ln))
+    (length-take-le (n + 1) (set xs at v) (omega (arith, length-set xs at v)) ∙ sym (length-insert (take n ys) at v (omega arith) ∙ ap (λ m. m + 1) ln))
     (λ k d q.
     let k< : k < n + 1 = omega (arith, length-take-le (n + 1) (set xs at v) (omega (arith, length-set xs at v))) in
     get_or-take (n + 1) (set xs at v) k d k< ∙ ⊎_elim

@@ -17,8 +17,8 @@ written xs ys zs n v e w says =
     let wrote = subst (λ b. Wrote b ys (81 * n) 81 (record_number v)) e w in
     record { wrote = wrote; more = versions_more xs ys n (record_number v) v wrote says }
 
-pub invariant-of-self : goal.invariant-of-self
-invariant-of-self c =
+pub invariant_of-self : goal.invariant_of-self
+invariant_of-self c =
     let s = c.args.self.now in
     let v = c.args.version in
     let ys = c.write_record.new.bytes in
@@ -26,7 +26,7 @@ invariant-of-self c =
     let kept = subst (λ l. Kept l s.limit) (sym w.more) c.in_ok-place_behind.ensures.1.kept in
     let exact = subst (Packs ys) (sym w.more) (packs_more s.bytes.now ys s.used v (versions_in s.bytes.now s.used) s.counted w.wrote s.exact) in
     let roomy : s.limit ≡ room (length ys) = s.roomy ∙ ap room (sym w.wrote.long) in
-    (roomy, (length_versions ys (s.used + 1), (kept.within, (kept.ordered, (kept.proper, (exact, tt))))))
+    record { roomy = roomy; counted = length_versions ys (s.used + 1); within = kept.within; ordered = kept.ordered; proper = kept.proper; exact = exact }
 
 pub returns : goal.returns
 returns c =
