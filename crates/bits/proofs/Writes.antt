@@ -5,7 +5,7 @@ use lib.Pow.{mod-mod-pow}
 use Rattle.std.proofs.lemmas.Nat.{shr-shr, shr_split, shr_high, shr_below, mod_low, mod_below, pow-add, pow_pos, one_shl, field_of}
 use Rattle.std.proofs.lemmas.List.{ext_get_or, length-set, length-drop, get_or-drop, get_or-set_same, get_or-set_other}
 use Rattle.std.proofs.lemmas.Bool.{cases_eq}
-use Rattle.bits.specs.Fields.{bit, number, field, with_part, Wrote}
+use Rattle.bits.specs.Fields.{bit, number, with_part, Wrote}
 use Rattle.bits.proofs.Numbers.{number_split, number_same, field_in_byte}
 
 -- ---- a byte with a part replaced

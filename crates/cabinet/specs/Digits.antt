@@ -1,5 +1,5 @@
 -- Hexadecimal digits.
-use Rattle.std.specs.Prelude.{ℕ, ◌+◌, ◌-◌, ◌*◌, Bool, cond, ◌&&◌, Some, None, Option, nat_le}
+use Rattle.std.specs.Prelude.{ℕ, ◌+◌, ◌-◌, Bool, cond, ◌&&◌, Some, None, Option, nat_le}
 
 abbrev pub between : ℕ → ℕ → ℕ → Bool
 between low high d = nat_le low d && nat_le d high

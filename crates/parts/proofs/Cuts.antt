@@ -1,5 +1,5 @@
 -- Versions in version order by their index: the rank of a place, and the list cut there. Assumes nothing.
-use Rattle.std.proofs.Common.{◌≡◌, ℕ, zero, suc, ◌+◌, ◌-◌, ◌<◌, ◌≤◌, Bool, true, false, cond, not, ◌&&◌, ◌||◌, eqb, ltb, leb, ◌⊎◌, List, [], ◌∷◌, ◌++◌, length, get_or, take, drop, Some, None, Option, sym, refl, ap, ◌∙◌, subst, inl, inr, ⊎_elim, arith}
+use Rattle.std.proofs.Common.{◌≡◌, ℕ, zero, suc, ◌+◌, ◌-◌, ◌<◌, ◌≤◌, true, false, not, List, [], ◌∷◌, ◌++◌, length, get_or, take, drop, Some, None, sym, refl, ap, ◌∙◌, subst, ⊎_elim, arith}
 use mathlib.Core.List.Memᴰ
 use mathlib.Core.List.{Memᴰ}
 use Rattle.std.proofs.lemmas.List.{take-append-drop, drop_more, drop_all}
@@ -8,11 +8,11 @@ use Rattle.std.proofs.lemmas.Bool.Decides.{nat_tests}
 use Rattle.std.specs.List.{insert as inserted}
 use Rattle.parts.specs.Indexed.{rank_of}
 use Rattle.version.specs.Lists.{first_from, held, last, insert}
-use Rattle.version.specs.Order.{ahead, place_of, before, sorted}
+use Rattle.version.specs.Order.{ahead, place_of, before}
 use Rattle.version.specs.declared.types.Content.TheVariants.{Removed}
 use Rattle.version.specs.declared.types.Place.{Place}
 use Rattle.version.specs.declared.types.Version.{Version}
-use Rattle.version.proofs.Sorts.{◌∈◌, Sorted, sorts}
+use Rattle.version.proofs.Sorts.{◌∈◌, Sorted}
 use Rattle.version.proofs.Takings.{AllAhead, Reached, Beyond, held_beyond, held_here, insert_cut}
 
 -- some version, where one has to be named and none is read

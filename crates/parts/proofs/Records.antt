@@ -1,5 +1,5 @@
 -- The records of packed flash: what a written record says, and what one more record makes of those before it. Assumes nothing.
-use Rattle.std.proofs.Common.{◌≡◌, ℕ, ◌+◌, ◌*◌, ◌/◌, ◌%◌, ◌^◌, ◌<◌, ◌≤◌, List, [], ◌∷◌, ◌++◌, length, get_or, sym, refl, ap, ◌∙◌, ap₂, ⊎_elim, arith}
+use Rattle.std.proofs.Common.{◌≡◌, ℕ, ◌+◌, ◌*◌, ◌/◌, ◌%◌, ◌^◌, ◌<◌, ◌≤◌, List, [], ◌∷◌, ◌++◌, length, get_or, sym, ap, ◌∙◌, ap₂, ⊎_elim, arith}
 use Rattle.bits.specs.Fields.{bit, field, Wrote}
 use Rattle.bits.proofs.Numbers.{number_split, number_same, field_lt}
 use Rattle.parts.specs.Packed.{removed_bit, value_bits, record_number, content_of, version_at, versions_in, Packs}

@@ -98,59 +98,71 @@ fn said_by(heap: Global, bytes: &[u8]) -> Result<(u32, u32, Vec<(u16, i32)>), Fa
     Ok((said.handle, said.width, pairs))
 }
 
-// The bytes are the picture of the handle, the width and the readings, to all calls that read and to `encode`.
+// The bytes are the picture of the handle, the width and the readings, to all calls that read and to `encode`; `case` names them where they are not.
 pub fn is_picture(
     rt: &impl Abort,
     heap: Global,
+    case: &str,
     bytes: &[u8],
     handle: u32,
     width: u32,
     pairs: &[(u16, i32)],
 ) -> Result<(), Fail> {
-    assert_eq!(rt; refusal_of(picture::check(bytes)), None);
-    assert_eq!(rt; dingaruho_refused_at(bytes), -1);
+    assert_eq!(rt; refusal_of(picture::check(bytes)), None, "{case}");
+    assert_eq!(rt; dingaruho_refused_at(bytes), -1, "{case}");
     let Ok(head) = read_head(bytes) else {
         return Err(Fail::new("no head"));
     };
-    assert_eq!(rt; (head.handle, head.width), (handle, width));
-    assert_eq!(rt; usize::from(head.count), pairs.len());
+    assert_eq!(rt; (head.handle, head.width), (handle, width), "{case}");
+    assert_eq!(rt; usize::from(head.count), pairs.len(), "{case}");
     let said = said_by(heap, bytes)?;
-    assert_eq!(rt; (said.0, said.1), (handle, width));
-    assert_eq!(rt; said.2, pairs);
+    assert_eq!(rt; (said.0, said.1), (handle, width), "{case}");
+    assert_eq!(rt; said.2.as_slice(), pairs, "{case}");
     for (point, value) in pairs {
-        assert_eq!(rt; ask(bytes, *point).ok(), Some(Some(*value)));
-        assert_eq!(rt; dingaruho_ask(bytes, *point), i64::from(*value));
+        assert_eq!(rt; ask(bytes, *point).ok(), Some(Some(*value)), "{case}");
+        assert_eq!(rt; dingaruho_ask(bytes, *point), i64::from(*value), "{case}");
     }
-    assert_eq!(rt; encoded(heap, handle, pairs)?, bytes);
+    assert_eq!(rt; encoded(heap, handle, pairs)?.as_slice(), bytes, "{case}");
     Ok(())
 }
 
-// The bytes are no picture, to all calls that read; a reader that is asked again answers the same.
+// The bytes are no picture, to all calls that read; a reader that is asked again answers the same. `case` names the bytes where one does not.
 pub fn is_refused(
     rt: &impl Abort,
     heap: Global,
+    case: &str,
     bytes: &[u8],
     number: u8,
     place: usize,
 ) -> Result<(), Fail> {
     let refusal = Some((number, place));
-    assert_eq!(rt; refusal_of(picture::check(bytes)), refusal);
+    assert_eq!(rt; refusal_of(picture::check(bytes)), refusal, "{case}");
     assert_eq!(rt;
         refusal_of(read_head(bytes)),
-        if number < 20 { refusal } else { None }
+        if number < 20 { refusal } else { None },
+        "{case}"
     );
-    assert_eq!(rt; refusal_of(ask(bytes, 5)), refusal);
-    assert_eq!(rt; dingaruho_ask(bytes, 5), i64::from(number) + 4_294_967_296);
+    assert_eq!(rt; refusal_of(ask(bytes, 5)), refusal, "{case}");
+    assert_eq!(rt;
+        dingaruho_ask(bytes, 5),
+        i64::from(number) + 4_294_967_296,
+        "{case}"
+    );
     assert_eq!(rt;
         Some(dingaruho_refused_at(bytes)),
-        i64::try_from(place).ok()
+        i64::try_from(place).ok(),
+        "{case}"
     );
     match read(heap, bytes) {
-        Err(NotRead::Refused(e)) => assert_eq!(rt; Some((e.refusal.number(), e.place)), refusal),
+        Err(NotRead::Refused(e)) => assert_eq!(rt;
+            Some((e.refusal.number(), e.place)),
+            refusal,
+            "{case}"
+        ),
         _ => return Err(Fail::new("read, or no memory")),
     }
     let mut reader = Reader::new(bytes);
-    assert_eq!(rt; end_of(&mut reader), refusal);
-    assert_eq!(rt; end_of(&mut reader), refusal);
+    assert_eq!(rt; end_of(&mut reader), refusal, "{case}");
+    assert_eq!(rt; end_of(&mut reader), refusal, "{case}");
     Ok(())
 }

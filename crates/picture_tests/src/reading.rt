@@ -52,11 +52,11 @@ static REFUSED: [(&str, u8, usize); 30] = [
 fn bytes_that_are_refused(rt: HostRuntime) -> Result<(), Fail> {
     let short = [0xFFu8; 7];
     for n in 0..7usize {
-        is_refused(&rt, rt.alloc(), &short[0..n], 17, 8 * n)?;
+        is_refused(&rt, rt.alloc(), "a short one", &short[0..n], 17, 8 * n)?;
     }
     for (text, number, place) in &REFUSED {
         let bytes = spelled(rt.alloc(), text)?;
-        is_refused(&rt, rt.alloc(), bytes.as_slice(), *number, *place).note(*text)?;
+        is_refused(&rt, rt.alloc(), text, bytes.as_slice(), *number, *place)?;
     }
     Ok(())
 }
@@ -102,7 +102,15 @@ static PICTURES: [(&str, u32, u32, &[(u16, i32)]); 13] = [
 fn pictures_that_are_read(rt: HostRuntime) -> Result<(), Fail> {
     for (text, handle, width, pairs) in &PICTURES {
         let bytes = spelled(rt.alloc(), text)?;
-        is_picture(&rt, rt.alloc(), bytes.as_slice(), *handle, *width, pairs).note(*text)?;
+        is_picture(
+            &rt,
+            rt.alloc(),
+            text,
+            bytes.as_slice(),
+            *handle,
+            *width,
+            pairs,
+        )?;
     }
     Ok(())
 }
@@ -118,7 +126,7 @@ fn record_of_the_worked_picture(rt: HostRuntime) -> Result<(), Fail> {
         return Err(Fail::new("no record"));
     };
     // its bits are 54 to 78, in bytes 6 to 9, and it begins at bit 6 of byte 6
-    assert_eq!(rt; record.bytes, &[0x24u8, 0, 0x1D, 0xCC]);
+    assert_eq!(rt; record.bytes, [0x24u8, 0, 0x1D, 0xCC].as_slice());
     assert_eq!(rt; record.bit, 6);
     assert_eq!(rt; (record.reading.point, record.reading.value), (7, 230));
     for _ in 0..2 {

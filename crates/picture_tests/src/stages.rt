@@ -83,10 +83,11 @@ fn after(stage: Stage, bytes: &mut [u8; 16], call: Call) -> Result<(Stage, Optio
 }
 
 // Makes the calls of a script on a buffer of 16 bytes AA. Each is answered as the script says, and a refused one leaves the buffer and the state's
-// size as they were. In the end the buffer and the size are those given.
+// size as they were. In the end the buffer and the size are those given. `case` names the script where they are not.
 pub fn runs(
     rt: &impl Abort,
     heap: Global,
+    case: &str,
     handle: u32,
     script: &[Step],
     text: &str,
@@ -97,13 +98,17 @@ pub fn runs(
     for (index, (call, refusal)) in script.iter().enumerate() {
         let before = (size_of(&stage), buffer);
         let (next, answer) = after(stage, &mut buffer, *call)?;
-        assert_eq!(rt; answer, *refusal, "call {index}");
+        assert_eq!(rt; answer, *refusal, "{case}: call {index}");
         if answer.is_some() {
-            assert_eq!(rt; (size_of(&next), buffer), before, "call {index}");
+            assert_eq!(rt; (size_of(&next), buffer), before, "{case}: call {index}");
         }
         stage = next;
     }
-    assert_eq!(rt; size_of(&stage), size);
-    assert_eq!(rt; spelled(heap, text)?, buffer);
+    assert_eq!(rt; size_of(&stage), size, "{case}");
+    assert_eq!(rt;
+        spelled(heap, text)?.as_slice(),
+        buffer.as_slice(),
+        "{case}"
+    );
     Ok(())
 }

@@ -65,15 +65,39 @@ static NARROW_READINGS: [Step; 8] = [
 fn scripts_of_calls(rt: HostRuntime) -> Result<(), Fail> {
     let heap = rt.alloc();
     let text = "00 00 00 01 00 01 24 00 1D CC AA AA AA AA AA AA";
-    runs(&rt, heap, 1, &ONE_READING, text, Some(10)).note("one reading")?;
+    runs(&rt, heap, "one reading", 1, &ONE_READING, text, Some(10))?;
     let text = "FF FF FF FF 00 00 00 AA AA AA AA AA AA AA AA AA";
-    runs(&rt, heap, 4_294_967_295, &NO_READING, text, Some(7)).note("no reading")?;
+    runs(
+        &rt,
+        heap,
+        "no reading",
+        4_294_967_295,
+        &NO_READING,
+        text,
+        Some(7),
+    )?;
     // width 2: point 5 and -1 as 000101 11, point 6 and -2 as 00000110 10
     let text = "00 00 00 00 00 02 08 00 17 00 06 80 AA AA AA AA";
-    runs(&rt, heap, 0, &OTHER_READINGS, text, Some(12)).note("other readings")?;
+    runs(
+        &rt,
+        heap,
+        "other readings",
+        0,
+        &OTHER_READINGS,
+        text,
+        Some(12),
+    )?;
     // width 2: point 3 and 0 as 000011 00, point 4 and -1 as 00000100 11
     let text = "00 00 00 00 00 02 08 00 0C 00 04 C0 AA AA AA AA";
-    runs(&rt, heap, 0, &NARROW_READINGS, text, None).note("narrow readings")
+    runs(
+        &rt,
+        heap,
+        "narrow readings",
+        0,
+        &NARROW_READINGS,
+        text,
+        None,
+    )
 }
 
 // Two points, and the buffer once the first is added with width 1.
@@ -97,7 +121,15 @@ fn points_that_do_not_rise(rt: HostRuntime) -> Result<(), Fail> {
         let second = *second;
         stops(&rt, rt.alloc(), &[(first, 0), (second, 0)], 1, 11)?;
         let measuring = [(Measure(first, 0), None), (Measure(second, 0), Some(11))];
-        runs(&rt, rt.alloc(), 0, &measuring, UNTOUCHED, Some(9))?;
+        runs(
+            &rt,
+            rt.alloc(),
+            "measured",
+            0,
+            &measuring,
+            UNTOUCHED,
+            Some(9),
+        )?;
         let adding = [
             (Measure(0, 0), None),
             (Measure(1, 0), None),
@@ -105,7 +137,7 @@ fn points_that_do_not_rise(rt: HostRuntime) -> Result<(), Fail> {
             (Add(11, first, 0), None),
             (Add(11, second, 0), Some(11)),
         ];
-        runs(&rt, rt.alloc(), 0, &adding, text, None).note(text)?;
+        runs(&rt, rt.alloc(), text, 0, &adding, text, None)?;
     }
     Ok(())
 }
@@ -129,7 +161,15 @@ fn as_many_readings_as_there_may_be(rt: HostRuntime) -> Result<(), Fail> {
         let mut pairs = many(heap, 4096, *value)?;
         let bytes = encoded(heap, 3, pairs.as_slice())?;
         assert_eq!(rt; bytes.len(), *size);
-        is_picture(&rt, heap, bytes.as_slice(), 3, *width, pairs.as_slice())?;
+        is_picture(
+            &rt,
+            heap,
+            "the largest",
+            bytes.as_slice(),
+            3,
+            *width,
+            pairs.as_slice(),
+        )?;
         put(&mut pairs, (4096, *value))?;
         stops(&rt, heap, pairs.as_slice(), 4096, 12)?;
     }
@@ -151,5 +191,13 @@ fn one_reading_too_many(rt: HostRuntime) -> Result<(), Fail> {
         put(&mut script, (Measure(point, -1), None))?;
     }
     script.extend_from_slice(&BEHIND_ALL)?;
-    runs(&rt, rt.alloc(), 3, script.as_slice(), UNTOUCHED, Some(8711))
+    runs(
+        &rt,
+        rt.alloc(),
+        "one too many",
+        3,
+        script.as_slice(),
+        UNTOUCHED,
+        Some(8711),
+    )
 }

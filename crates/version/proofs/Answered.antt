@@ -1,12 +1,11 @@
 -- What the answers of a part mean by membership. Assumes nothing.
-use Rattle.std.proofs.Common.{◌≡◌, ℕ, ◌<◌, ◌≤◌, Bool, true, false, not, ◌&&◌, ◌||◌, eqb, ltb, leb, ◌⊎◌, List, [], ◌∷◌, Some, None, Option, sym, refl, ap, ◌∙◌, subst, inl, inr, ⊎_elim, arith}
+use Rattle.std.proofs.Common.{◌≡◌, ℕ, ◌<◌, ◌≤◌, true, false, ◌&&◌, eqb, ◌⊎◌, List, [], ◌∷◌, Some, None, Option, sym, refl, ap, ◌∙◌, subst, inl, inr, ⊎_elim, arith}
 use mathlib.Core.List.Memᴰ
-use mathlib.Core.List.{Memᴰ}
 use Rattle.std.proofs.lemmas.Bool.{cases_lt, both_ways, or_left, or_right, not-true, not-false, not_from_false}
 use Rattle.std.proofs.lemmas.Bool.Decides.{nat_tests}
-use Rattle.version.specs.Lists.{newest, first_from, look, held, last, behind, insert}
-use Rattle.version.specs.Meaning.{Newest, Earliest, Nearest, Means, AnswersMean}
-use Rattle.version.specs.Order.{ahead, place_of, before, Kept}
+use Rattle.version.specs.Lists.{newest, first_from, look, held}
+use Rattle.version.specs.Meaning.{Newest, Earliest, Nearest, AnswersMean}
+use Rattle.version.specs.Order.{ahead, place_of, before}
 use Rattle.version.specs.declared.types.Place.{Place}
 use Rattle.version.specs.declared.types.Version.{Version}
 use Rattle.version.proofs.Firsts.{first_some, first_none, first_least, from, of_point, seen}

@@ -1,12 +1,12 @@
 -- A list of versions that is cut where a place stands, and what a taking makes of it. Assumes nothing.
-use Rattle.std.proofs.Common.{◌≡◌, ℕ, suc, ◌+◌, ◌<◌, ◌≤◌, Bool, true, false, cond, not, ◌&&◌, ◌||◌, eqb, ltb, leb, ◌⊎◌, List, [], ◌∷◌, ◌++◌, length, Some, None, Ok, Err, Option, Result, sym, refl, ap, ◌∙◌, subst, inl, inr, ⊎_elim, arith}
+use Rattle.std.proofs.Common.{◌≡◌, ℕ, suc, ◌<◌, Bool, true, false, cond, not, ◌&&◌, ◌||◌, eqb, ◌⊎◌, List, [], ◌∷◌, ◌++◌, length, Some, None, Ok, Err, Option, Result, sym, refl, ap, ◌∙◌, subst, inl, inr, ⊎_elim, arith}
 use mathlib.Core.List.Memᴰ
 use mathlib.Core.List.{Memᴰ}
 use Rattle.std.proofs.lemmas.List.{length-append}
 use Rattle.std.proofs.lemmas.Bool.{cond_both, cond-true, cond-false, cases_Bool, cases_eq, and_parts, or_parts, or_from, not-true, eq-eqb, ne_eqb}
 use Rattle.std.proofs.lemmas.Bool.Decides.{nat_tests}
-use Rattle.version.specs.Lists.{first, first_from, held, last, behind, memory_place, flash_place, taking, left_by, insert, memory_after, flash_after}
-use Rattle.version.specs.Order.{ahead, place_of, before, every, sorted, numbered, Kept}
+use Rattle.version.specs.Lists.{first_from, held, last, behind, memory_place, flash_place, taking, left_by, insert, memory_after, flash_after}
+use Rattle.version.specs.Order.{ahead, place_of, before, numbered, Kept}
 use Rattle.version.specs.declared.types.NotTaken.{NotTaken}
 use Rattle.version.specs.declared.types.NotTaken.TheVariants.{OutOfPlace, Full}
 use Rattle.version.specs.declared.types.Place.{Place}

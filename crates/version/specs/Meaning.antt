@@ -2,7 +2,7 @@
 use Rattle.std.specs.Prelude.{◌≡◌, ℕ, ◌<◌, ◌≤◌, true, false, ◌⊎◌, List, Some, None, Option, ◌≢◌}
 use mathlib.Core.List.{Memᴰ}
 use Rattle.version.specs.Lists.{newest, first_from, look, held, last, behind, insert, memory_after, flash_after}
-use Rattle.version.specs.Order.{ahead, place_of, before, sorted, Kept}
+use Rattle.version.specs.Order.{ahead, place_of, before, Kept}
 use Rattle.version.specs.declared.types.Place.{Place}
 use Rattle.version.specs.declared.types.Version.{Version}
 

@@ -1,4 +1,4 @@
-use Rattle.std.proofs.Common.{◌≡◌, ◌+◌, ◌-◌, ◌*◌, refl, ap, ◌∙◌, arith, rules}
+use Rattle.std.proofs.Common.{◌≡◌, ◌-◌, ◌*◌, refl, ap, ◌∙◌, arith}
 use Rattle.bits.specs.Fields.{number, field}
 use Rattle.bits.proofs.Numbers.{joined_more}
 use Rattle.bits.proofs.read.last_bytes.Goals as goal

@@ -1,4 +1,4 @@
-use Rattle.std.proofs.Common.{◌≡◌, ◌<◌, ◌≤◌, length, get_or, Some, sym, ap, ◌∙◌, arith}
+use Rattle.std.proofs.Common.{◌≡◌, ◌<◌, length, get_or, Some, sym, ap, ◌∙◌, arith}
 use Rattle.version.specs.Lists.{first_from}
 use Rattle.version.proofs.Firsts.{reaches_is}
 use Rattle.parts.specs.Indexed.{rank_of}
