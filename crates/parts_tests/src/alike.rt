@@ -3,7 +3,6 @@ use crate::calls::Answer::*;
 use crate::calls::Call::*;
 use crate::calls::Step;
 use crate::every::{every_flash_part, every_memory_part, every_part};
-use std::test::Fail;
 
 const TOP: u32 = 4_294_967_295;
 
@@ -193,7 +192,7 @@ static EDGES: [Step; 33] = [
 ];
 
 #[test]
-fn takings_in_version_order(rt: HostRuntime) -> Result<(), Fail> {
+fn takings_in_version_order(rt: HostRuntime) {
     every_part(
         &rt,
         &[
@@ -212,12 +211,12 @@ fn takings_in_version_order(rt: HostRuntime) -> Result<(), Fail> {
             &FIRSTS,
             &LOOKS,
         ],
-    )
+    );
 }
 
 #[test]
-fn places_at_the_edges(rt: HostRuntime) -> Result<(), Fail> {
-    every_part(&rt, &[&EMPTY, &EDGES, &CLEARED, &EMPTY, &EDGES])
+fn places_at_the_edges(rt: HostRuntime) {
+    every_part(&rt, &[&EMPTY, &EDGES, &CLEARED, &EMPTY, &EDGES]);
 }
 
 // Takings in any order: behind the last, in front of the first and between.
@@ -272,8 +271,8 @@ static TWO_ANEW: [Step; 8] = [
 ];
 
 #[test]
-fn takings_in_any_order(rt: HostRuntime) -> Result<(), Fail> {
-    every_memory_part(&rt, &[&EMPTY, &ANY_ORDER, &CLEARED, &EMPTY, &TWO_ANEW])
+fn takings_in_any_order(rt: HostRuntime) {
+    every_memory_part(&rt, &[&EMPTY, &ANY_ORDER, &CLEARED, &EMPTY, &TWO_ANEW]);
 }
 
 // Takings behind the last, and others.
@@ -328,9 +327,9 @@ static ONE_ANEW: [Step; 5] = [
 ];
 
 #[test]
-fn takings_behind_the_last(rt: HostRuntime) -> Result<(), Fail> {
+fn takings_behind_the_last(rt: HostRuntime) {
     every_flash_part(
         &rt,
         &[&EMPTY, &BEHIND_THE_LAST, &CLEARED, &EMPTY, &ONE_ANEW],
-    )
+    );
 }

@@ -164,16 +164,16 @@ fn packs(rt: &impl Abort, heap: Global, fill: u8, script: &[Step], text: &str) -
     let expected = spelled(heap, text)?;
     let mut bytes = many(heap, fill, expected.len())?;
     let mut part = PackedFlash::new(bytes.as_mut_slice());
-    in_flash(rt, &mut part, &[script])?;
-    assert_eq!(rt; part.bytes(), expected.as_slice());
-    assert_eq!(rt; bytes, expected);
+    in_flash(rt, text, &mut part, &[script]);
+    assert_eq!(rt; part.bytes(), expected.as_slice(), "{text}");
+    assert_eq!(rt; bytes, expected, "{text}");
     Ok(())
 }
 
 #[test]
 fn bytes_of_records(rt: HostRuntime) -> Result<(), Fail> {
     for (fill, script, text) in ONE_RECORD.iter().chain(&MORE_RECORDS) {
-        packs(&rt, rt.alloc(), *fill, script, text).note(*text)?;
+        packs(&rt, rt.alloc(), *fill, script, text)?;
     }
     Ok(())
 }

@@ -113,31 +113,26 @@ impl<P: FlashPart> Called for InFlash<'_, P> {
     }
 }
 
-// Makes the calls of some scripts, one behind the other. Each is answered as its script says.
-pub fn runs<C: Called>(rt: &impl Abort, part: &mut C, scripts: &[&[Step]]) {
+// Makes the calls of some scripts, one behind the other. Each is answered as its script says. `case` names the part, and stands in what is said of a
+// wrong answer.
+pub fn runs<C: Called>(rt: &impl Abort, case: &str, part: &mut C, scripts: &[&[Step]]) {
     for (place, script) in scripts.iter().enumerate() {
         for (index, (call, answer)) in script.iter().enumerate() {
-            assert_eq!(rt; part.answer(*call), *answer, "script {place}, call {index}");
+            assert_eq!(rt;
+                part.answer(*call),
+                *answer,
+                "{case}: script {place}, call {index}"
+            );
         }
     }
 }
 
-pub fn in_memory<P: MemoryPart>(
-    rt: &impl Abort,
-    part: &mut P,
-    scripts: &[&[Step]],
-) -> Result<(), Fail> {
-    runs(rt, &mut InMemory(part), scripts);
-    Ok(())
+pub fn in_memory<P: MemoryPart>(rt: &impl Abort, case: &str, part: &mut P, scripts: &[&[Step]]) {
+    runs(rt, case, &mut InMemory(part), scripts);
 }
 
-pub fn in_flash<P: FlashPart>(
-    rt: &impl Abort,
-    part: &mut P,
-    scripts: &[&[Step]],
-) -> Result<(), Fail> {
-    runs(rt, &mut InFlash(part), scripts);
-    Ok(())
+pub fn in_flash<P: FlashPart>(rt: &impl Abort, case: &str, part: &mut P, scripts: &[&[Step]]) {
+    runs(rt, case, &mut InFlash(part), scripts);
 }
 
 // One item more at the end of a list.

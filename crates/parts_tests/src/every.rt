@@ -2,7 +2,6 @@
 use crate::calls::{BLANK, Step, in_flash, in_memory};
 use parts::{Fence, LinkedList, Node, PackedFlash, SortedTable};
 use std::process::Abort;
-use std::test::Fail;
 use version::{FlashPart, MemoryPart};
 
 // A node whose link leads nowhere.
@@ -11,41 +10,47 @@ pub const LOOSE: Node = Node {
     next: Some(65_535),
 };
 
-// Gives the scripts to a part, and then to a fence over it, which empties it first.
+// Gives the scripts to a part, and then to a fence over it, which empties it first. `cases` names the two.
 fn memory_and_fence<P: MemoryPart + Drop>(
     rt: &impl Abort,
+    cases: [&str; 2],
     mut part: P,
     scripts: &[&[Step]],
-) -> Result<(), Fail> {
-    in_memory(rt, &mut part, scripts).note("alone")?;
-    in_memory(rt, &mut Fence::new(part), scripts).note("under a fence")
+) {
+    in_memory(rt, cases[0], &mut part, scripts);
+    in_memory(rt, cases[1], &mut Fence::new(part), scripts);
 }
 
 fn flash_and_fence<P: FlashPart + Drop>(
     rt: &impl Abort,
+    cases: [&str; 2],
     mut part: P,
     scripts: &[&[Step]],
-) -> Result<(), Fail> {
-    in_flash(rt, &mut part, scripts).note("alone")?;
-    in_flash(rt, &mut Fence::new(part), scripts).note("under a fence")
+) {
+    in_flash(rt, cases[0], &mut part, scripts);
+    in_flash(rt, cases[1], &mut Fence::new(part), scripts);
 }
 
-pub fn every_memory_part(rt: &impl Abort, scripts: &[&[Step]]) -> Result<(), Fail> {
+pub fn every_memory_part(rt: &impl Abort, scripts: &[&[Step]]) {
     let mut slots = [BLANK; 8];
     let mut nodes = [LOOSE; 8];
-    memory_and_fence(rt, SortedTable::memory(&mut slots), scripts).note("memory table")?;
-    memory_and_fence(rt, LinkedList::new(&mut nodes), scripts).note("linked list")
+    let cases = ["memory table", "memory table under a fence"];
+    memory_and_fence(rt, cases, SortedTable::memory(&mut slots), scripts);
+    let cases = ["linked list", "linked list under a fence"];
+    memory_and_fence(rt, cases, LinkedList::new(&mut nodes), scripts);
 }
 
-pub fn every_flash_part(rt: &impl Abort, scripts: &[&[Step]]) -> Result<(), Fail> {
+pub fn every_flash_part(rt: &impl Abort, scripts: &[&[Step]]) {
     let mut slots = [BLANK; 8];
     // 8 times 81 bits
     let mut bytes = [0xA5u8; 81];
-    flash_and_fence(rt, SortedTable::flash(&mut slots), scripts).note("flash table")?;
-    flash_and_fence(rt, PackedFlash::new(&mut bytes), scripts).note("packed flash")
+    let cases = ["flash table", "flash table under a fence"];
+    flash_and_fence(rt, cases, SortedTable::flash(&mut slots), scripts);
+    let cases = ["packed flash", "packed flash under a fence"];
+    flash_and_fence(rt, cases, PackedFlash::new(&mut bytes), scripts);
 }
 
-pub fn every_part(rt: &impl Abort, scripts: &[&[Step]]) -> Result<(), Fail> {
-    every_memory_part(rt, scripts)?;
-    every_flash_part(rt, scripts)
+pub fn every_part(rt: &impl Abort, scripts: &[&[Step]]) {
+    every_memory_part(rt, scripts);
+    every_flash_part(rt, scripts);
 }

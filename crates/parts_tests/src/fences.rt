@@ -7,7 +7,6 @@ use crate::every::LOOSE;
 use parts::{Fence, LinkedList, PackedFlash, SortedTable};
 use std::cell::Cell;
 use std::process::Abort;
-use std::test::Fail;
 use version::{FlashPart, MemoryPart};
 
 const TOP: u32 = 4_294_967_295;
@@ -89,73 +88,85 @@ static RISING: [Counted; 61] = [
     ((Clear, Done), 0),
 ];
 
-// Makes the calls on a fence. Each is answered as the script says, and asks below as often.
-fn counts<C: Called>(rt: &impl Abort, fence: &mut C, asked: &Cell<u32>, script: &[Counted]) {
+// Makes the calls on a fence. Each is answered as the script says, and asks below as often. `case` names the part below.
+fn counts<C: Called>(
+    rt: &impl Abort,
+    case: &str,
+    fence: &mut C,
+    asked: &Cell<u32>,
+    script: &[Counted],
+) {
     for (index, ((call, answer), questions)) in script.iter().enumerate() {
         asked.set(0);
         let said = fence.answer(*call);
-        assert_eq!(rt; (said, asked.get()), (*answer, *questions), "call {index}");
+        assert_eq!(rt;
+            (said, asked.get()),
+            (*answer, *questions),
+            "{case}: call {index}"
+        );
     }
 }
 
 fn fence_in_memory<P: MemoryPart + Drop>(
     rt: &impl Abort,
+    case: &str,
     below: P,
     asked: &Cell<u32>,
     script: &[Counted],
 ) {
     let mut fence = Fence::new(below);
-    counts(rt, &mut InMemory(&mut fence), asked, script);
+    counts(rt, case, &mut InMemory(&mut fence), asked, script);
 }
 
 fn counts_in_memory<P: MemoryPart + Drop>(
     rt: &impl Abort,
+    case: &str,
     below: P,
     script: &[Counted],
-) -> Result<(), Fail> {
+) {
     let asked = Cell::new(0);
     let below = Counting {
         below,
         asked: &asked,
     };
-    fence_in_memory(rt, below, &asked, script);
-    Ok(())
+    fence_in_memory(rt, case, below, &asked, script);
 }
 
 fn fence_in_flash<P: FlashPart + Drop>(
     rt: &impl Abort,
+    case: &str,
     below: P,
     asked: &Cell<u32>,
     script: &[Counted],
 ) {
     let mut fence = Fence::new(below);
-    counts(rt, &mut InFlash(&mut fence), asked, script);
+    counts(rt, case, &mut InFlash(&mut fence), asked, script);
 }
 
-fn counts_in_flash<P: FlashPart + Drop>(
-    rt: &impl Abort,
-    below: P,
-    script: &[Counted],
-) -> Result<(), Fail> {
+fn counts_in_flash<P: FlashPart + Drop>(rt: &impl Abort, case: &str, below: P, script: &[Counted]) {
     let asked = Cell::new(0);
     let below = Counting {
         below,
         asked: &asked,
     };
-    fence_in_flash(rt, below, &asked, script);
-    Ok(())
+    fence_in_flash(rt, case, below, &asked, script);
 }
 
 #[test]
-fn questions_below_a_fence(rt: HostRuntime) -> Result<(), Fail> {
+fn questions_below_a_fence(rt: HostRuntime) {
     let mut slots = [BLANK; 4];
     let mut nodes = [LOOSE; 4];
     // 4 times 81 bits are 324
     let mut bytes = [0u8; 41];
-    counts_in_memory(&rt, SortedTable::memory(&mut slots), &RISING).note("memory table")?;
-    counts_in_memory(&rt, LinkedList::new(&mut nodes), &RISING).note("linked list")?;
-    counts_in_flash(&rt, SortedTable::flash(&mut slots), &RISING).note("flash table")?;
-    counts_in_flash(&rt, PackedFlash::new(&mut bytes), &RISING).note("packed flash")
+    counts_in_memory(
+        &rt,
+        "memory table",
+        SortedTable::memory(&mut slots),
+        &RISING,
+    );
+    counts_in_memory(&rt, "linked list", LinkedList::new(&mut nodes), &RISING);
+    counts_in_flash(&rt, "flash table", SortedTable::flash(&mut slots), &RISING);
+    counts_in_flash(&rt, "packed flash", PackedFlash::new(&mut bytes), &RISING);
 }
 
 // In memory a fence widens to both sides.
@@ -179,9 +190,14 @@ static BOTH_SIDES: [Counted; 15] = [
 ];
 
 #[test]
-fn fence_that_widens_to_both_sides(rt: HostRuntime) -> Result<(), Fail> {
+fn fence_that_widens_to_both_sides(rt: HostRuntime) {
     let mut slots = [BLANK; 4];
     let mut nodes = [LOOSE; 4];
-    counts_in_memory(&rt, SortedTable::memory(&mut slots), &BOTH_SIDES).note("memory table")?;
-    counts_in_memory(&rt, LinkedList::new(&mut nodes), &BOTH_SIDES).note("linked list")
+    counts_in_memory(
+        &rt,
+        "memory table",
+        SortedTable::memory(&mut slots),
+        &BOTH_SIDES,
+    );
+    counts_in_memory(&rt, "linked list", LinkedList::new(&mut nodes), &BOTH_SIDES);
 }

@@ -27,30 +27,29 @@ fn full(limit: u16) -> [Step; 6] {
     ]
 }
 
-// An emptied part takes the points below its limit, rising or falling, and no more, and finds them all.
-fn fills<C: Called>(rt: &impl Abort, part: &mut C, limit: u16, falling: bool) -> Result<(), Fail> {
-    runs(rt, part, &[&EMPTIED]);
+// An emptied part takes the points below its limit, rising or falling, and no more, and finds them all. `case` names it where it does not.
+fn fills<C: Called>(rt: &impl Abort, case: &str, part: &mut C, limit: u16, falling: bool) {
+    runs(rt, case, part, &[&EMPTIED]);
     for index in 0..limit {
         let point = if falling { limit - 1 - index } else { index };
         let call = Take(point, 3, Some(-i32::from(point)));
-        assert_eq!(rt; part.answer(call), Done);
+        assert_eq!(rt; part.answer(call), Done, "{case}");
     }
-    runs(rt, part, &[&full(limit)]);
+    runs(rt, case, part, &[&full(limit)]);
     for point in 0..limit {
         let found = Found(point, 3, Some(-i32::from(point)));
-        assert_eq!(rt; part.answer(Newest(point, 3)), found);
-        assert_eq!(rt; part.answer(From(point, 4)), found);
+        assert_eq!(rt; part.answer(Newest(point, 3)), found, "{case}");
+        assert_eq!(rt; part.answer(From(point, 4)), found, "{case}");
     }
-    Ok(())
 }
 
-fn fills_memory<P: MemoryPart>(rt: &impl Abort, part: &mut P, limit: u16) -> Result<(), Fail> {
-    fills(rt, &mut InMemory(part), limit, false).note("rising")?;
-    fills(rt, &mut InMemory(part), limit, true).note("falling")
+fn fills_memory<P: MemoryPart>(rt: &impl Abort, cases: [&str; 2], part: &mut P, limit: u16) {
+    fills(rt, cases[0], &mut InMemory(part), limit, false);
+    fills(rt, cases[1], &mut InMemory(part), limit, true);
 }
 
-fn fills_flash<P: FlashPart>(rt: &impl Abort, part: &mut P, limit: u16) -> Result<(), Fail> {
-    fills(rt, &mut InFlash(part), limit, false)
+fn fills_flash<P: FlashPart>(rt: &impl Abort, case: &str, part: &mut P, limit: u16) {
+    fills(rt, case, &mut InFlash(part), limit, false);
 }
 
 // Slots or nodes, and the limit that they give.
@@ -60,11 +59,21 @@ static MEMORY_SIZES: [(usize, u16); 4] = [(0, 0), (1, 1), (1024, 1024), (1030, 1
 fn memory_parts_to_their_limits(rt: HostRuntime) -> Result<(), Fail> {
     for (size, limit) in &MEMORY_SIZES {
         let mut slots = many(rt.alloc(), BLANK, *size)?;
-        fills_memory(&rt, &mut SortedTable::memory(slots.as_mut_slice()), *limit).note(
-            "memory table",
-        )?;
+        let cases = ["memory table, rising", "memory table, falling"];
+        fills_memory(
+            &rt,
+            cases,
+            &mut SortedTable::memory(slots.as_mut_slice()),
+            *limit,
+        );
         let mut nodes = many(rt.alloc(), LOOSE, *size)?;
-        fills_memory(&rt, &mut LinkedList::new(nodes.as_mut_slice()), *limit).note("linked list")?;
+        let cases = ["linked list, rising", "linked list, falling"];
+        fills_memory(
+            &rt,
+            cases,
+            &mut LinkedList::new(nodes.as_mut_slice()),
+            *limit,
+        );
     }
     Ok(())
 }
@@ -76,7 +85,12 @@ static TABLE_SIZES: [(usize, u16); 3] = [(0, 0), (1, 1), (4100, 4096)];
 fn flash_tables_to_their_limits(rt: HostRuntime) -> Result<(), Fail> {
     for (size, limit) in &TABLE_SIZES {
         let mut slots = many(rt.alloc(), BLANK, *size)?;
-        fills_flash(&rt, &mut SortedTable::flash(slots.as_mut_slice()), *limit)?;
+        fills_flash(
+            &rt,
+            "flash table",
+            &mut SortedTable::flash(slots.as_mut_slice()),
+            *limit,
+        );
     }
     Ok(())
 }
@@ -88,7 +102,12 @@ static PACKED_SIZES: [(usize, u16); 5] = [(0, 0), (10, 0), (11, 1), (41_472, 409
 fn packed_flash_to_its_limits(rt: HostRuntime) -> Result<(), Fail> {
     for (size, limit) in &PACKED_SIZES {
         let mut bytes = many(rt.alloc(), 0xFFu8, *size)?;
-        fills_flash(&rt, &mut PackedFlash::new(bytes.as_mut_slice()), *limit)?;
+        fills_flash(
+            &rt,
+            "packed flash",
+            &mut PackedFlash::new(bytes.as_mut_slice()),
+            *limit,
+        );
     }
     Ok(())
 }

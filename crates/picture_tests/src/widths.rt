@@ -18,6 +18,7 @@ fn edges_of_every_width(rt: HostRuntime) -> Result<(), Fail> {
             is_picture(
                 &rt,
                 rt.alloc(),
+                "an edge of a width",
                 bytes.as_slice(),
                 4_294_967_295,
                 width,
