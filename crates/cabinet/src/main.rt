@@ -8,9 +8,9 @@ mod input;
 
 use crate::commands::{ask, decode, encode, help};
 use crate::failure::Failure;
-use anyhow::anyhow;
 use std::alloc::Global;
 use std::env;
+use std::process::ExitCode;
 
 fn run(rt: &HostRuntime, heap: Global) -> Result<(), Failure> {
     let args: Vec<String> = env::args(rt)?.skip(1).collect(heap)?;
@@ -26,12 +26,13 @@ fn run(rt: &HostRuntime, heap: Global) -> Result<(), Failure> {
     }
 }
 
-fn main(rt: HostRuntime) -> anyhow::Result<()> {
+fn main(rt: HostRuntime) -> ExitCode {
     match run(&rt, rt.alloc()) {
-        Ok(()) => Ok(()),
+        Ok(()) => ExitCode::SUCCESS,
         Err(e) => {
-            eprintln!(rt; "cabinet: {e}")?;
-            Err(anyhow!("refused"))
+            // Where standard error takes no line, the status alone says it.
+            let _ = eprintln!(rt; "cabinet: {e}");
+            ExitCode::FAILURE
         }
     }
 }
