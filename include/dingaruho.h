@@ -1,6 +1,6 @@
 /* Dingaruho: what a C program may ask of a picture's bytes.
  *
- * Link with the static library of the crate `picture`. No call allocates, keeps
+ * Link with libpicture.a, which bin/libpicture builds. No call allocates, keeps
  * the bytes, or writes to them; each reads the bytes once from front to back.
  * `bytes` points to `len` bytes, which stay as they are during the call. `len`
  * is the length of the whole picture, neither less nor more. `bytes` may be
