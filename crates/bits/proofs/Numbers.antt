@@ -1,6 +1,6 @@
 -- Laws of the number that a row of bits makes, and of the fields of a byte list. Assumes nothing.
-use Rattle.std.proofs.Common.{◌≡◌, ℕ, zero, suc, ◌+◌, ◌-◌, ◌*◌, ◌/◌, ◌%◌, ◌^◌, ◌<◌, ◌≤◌, List, get_or, sym, refl, ap, ◌∙◌, ap₂, add-zero, add_assoc, add-suc, mod-eq_of_lt, mul_assoc, pow-suc, div-one, add-one, arith, pow_mono}
-use Rattle.std.proofs.lemmas.Nat.{shr-shr, shr_high, mod_low, mod-pow-add, shl_whole}
+use Rattle.std.proofs.Common.{◌≡◌, ℕ, zero, suc, ◌+◌, ◌-◌, ◌*◌, ◌/◌, ◌%◌, ◌^◌, ◌<◌, ◌≤◌, List, get_or, sym, refl, ap, ◌∙◌, ap₂, add-zero, add_assoc, add-suc, mod-eq_of_lt, mul_assoc, pow-suc, div-one, add-one, arith}
+use Rattle.std.proofs.lemmas.Nat.{shr-shr, shr_high, mod_low, mod-pow-add}
 use Rattle.bits.specs.Fields.{bit, number, field}
 
 -- a row of a + t bits is one of a bits, and behind it one of t bits
@@ -10,11 +10,14 @@ number_split f p a zero = rw add-zero (omega arith)
 number_split f p a (suc t) =
     rw (add-suc, add_assoc p a t) (omega (arith, number_split f p a t, ap (λ x. number f p a * x) (pow-suc 2 t), mul_assoc (number f p a) (2 ^ t) 2))
 
-pub number_same : (f g : ℕ → ℕ) (p w : ℕ) → ((i : ℕ) → p ≤ i → i < p + w → g i ≡ f i) → number g p w ≡ number f p w
+-- the same bits at another place
+number_moved : (f g : ℕ → ℕ) (p q w : ℕ) → ((i : ℕ) → i < w → f (p + i) ≡ g (q + i)) → number f p w ≡ number g q w
 unfolding number
-number_same f g p zero h = refl
-number_same f g p (suc w) h =
-    ap₂ (λ n b. n * 2 + b) (number_same f g p w (λ i a l. h i a (omega arith))) (h (p + w) (omega arith) (omega arith))
+number_moved f g p q zero h = refl
+number_moved f g p q (suc w) h = ap₂ (λ n b. n * 2 + b) (number_moved f g p q w (λ i l. h i (omega arith))) (h w (omega arith))
+
+pub number_same : (f g : ℕ → ℕ) (p w : ℕ) → ((i : ℕ) → p ≤ i → i < p + w → g i ≡ f i) → number g p w ≡ number f p w
+number_same f g p w h = number_moved g f p p w (λ i l. h (p + i) (omega arith) (omega arith))
 
 pub number_lt : (f : ℕ → ℕ) → ((i : ℕ) → f i < 2) → (p w : ℕ) → number f p w < 2 ^ w
 unfolding number
@@ -56,20 +59,16 @@ byte_is_field xs q h =
     let d : 8 * q / 8 ≡ q = omega arith in
     field_in_byte xs (8 * q) 8 (omega arith) ∙ rw (o, d) (rw (div-one) (mod-eq_of_lt h))
 
--- one turn of the loop that joins bytes: those from byte a to byte i are in v, and byte i comes behind
-pub joined_more : (xs : List ℕ) (a i v : ℕ) → a ≤ i → i < a + 5 → v ≡ field xs (8 * a) (8 * (i - a)) → get_or xs i 0 < 256
-    → ((v * 2 ^ 8) % 2 ^ 64 + get_or xs i 0 ≡ field xs (8 * a) (8 * (i + 1 - a))) × ((v * 2 ^ 8) % 2 ^ 64 + get_or xs i 0 < 2 ^ 64)
-joined_more xs a i v from few e byte =
-    let n = i - a in
-    let most : 8 * n ≤ 32 = omega arith in
-    let top : 2 ^ (8 * n) ≤ 2 ^ 32 = pow_mono most in
-    let small : v < 2 ^ 32 = omega (arith, field_lt xs (8 * a) (8 * n)) in
-    let whole : (v * 2 ^ 8) % 2 ^ 64 ≡ v * 2 ^ 8 = shl_whole v 32 8 64 small (omega arith) in
-    let more : 8 * (i + 1 - a) ≡ 8 * n + 8 = omega arith in
-    let there : 8 * a + 8 * n ≡ 8 * i = omega arith in
-    let last : field xs (8 * a + 8 * n) 8 ≡ get_or xs i 0 = rw there (byte_is_field xs i byte) in
-    let all : field xs (8 * a) (8 * (i + 1 - a)) ≡ field xs (8 * a) (8 * n) * 2 ^ 8 + field xs (8 * a + 8 * n) 8 = rw more (number_split (bit xs) (8 * a) (8 * n) 8) in
-    (omega arith, omega arith)
+-- n bytes that are those of xs from byte a on
+pub field_moved : (xs ys : List ℕ) (a n : ℕ) → ((k : ℕ) → k < n → get_or ys k 0 ≡ get_or xs (a + k) 0) → field ys 0 (8 * n) ≡ field xs (8 * a) (8 * n)
+unfolding bit
+field_moved xs ys a n h =
+    number_moved (bit ys) (bit xs) 0 (8 * a) (8 * n)
+    (λ i l.
+    let q : (8 * a + i) / 8 ≡ a + i / 8 = omega arith in
+    let r : (8 * a + i) % 8 ≡ i % 8 = omega arith in
+    let z : 0 + i ≡ i = omega arith in
+    rw (z, q, r) (ap (λ b. b / 2 ^ (7 - i % 8) % 2) (h (i / 8) (omega arith))))
 
 -- a field of one bit
 pub field_one : (xs : List ℕ) (p : ℕ) → field xs p 1 ≡ bit xs p
@@ -83,7 +82,7 @@ field_byte xs a n byte =
     number_split (bit xs) (8 * a) (8 * n) 8 ∙ ap (λ v. field xs (8 * a) (8 * n) * 256 + v) (rw there (byte_is_field xs (a + n) byte))
 
 -- five bytes
-pub field_five : (xs : List ℕ) (a : ℕ) → get_or xs a 0 < 256 → get_or xs (a + 1) 0 < 256 → get_or xs (a + 2) 0 < 256 → get_or xs (a + 3) 0 < 256 → get_or xs (a + 4) 0 < 256
+pub field_five : (xs : List ℕ) (a : ℕ) → ((i : ℕ) → get_or xs i 0 < 256)
     → field xs (8 * a) 40 ≡ get_or xs a 0 * 2 ^ 32 + get_or xs (a + 1) 0 * 2 ^ 24 + get_or xs (a + 2) 0 * 2 ^ 16 + get_or xs (a + 3) 0 * 2 ^ 8 + get_or xs (a + 4) 0
-field_five xs a b0 b1 b2 b3 b4 =
-    omega (arith, byte_is_field xs a b0, field_byte xs a 1 b1, field_byte xs a 2 b2, field_byte xs a 3 b3, field_byte xs a 4 b4)
+field_five xs a byte =
+    omega (arith, byte_is_field xs a (byte a), field_byte xs a 1 (byte (a + 1)), field_byte xs a 2 (byte (a + 2)), field_byte xs a 3 (byte (a + 3)), field_byte xs a 4 (byte (a + 4)))

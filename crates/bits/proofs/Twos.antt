@@ -1,7 +1,7 @@
 -- Laws of two's complement. Assumes nothing.
 use Rattle.std.proofs.Common.{◌≡◌, ℕ, suc, ◌+◌, ◌-◌, ◌*◌, ◌%◌, ◌^◌, ◌<◌, ◌≤◌, ltb, ℤ, pos, negsuc, sym, refl, ap, ◌∙◌, mod-eq_of_lt, add-mul, pow-suc, arith, pow-add, w32, of_z}
 use lib.Signed.{mag}
-use Rattle.std.proofs.lemmas.Nat.{mod_low, pow_pos}
+use Rattle.std.proofs.lemmas.Nat.{mod_low, one_shl, pow_pos}
 use Rattle.std.proofs.lemmas.Bool.{cond_both, ltb-true, ltb-false}
 use Rattle.std.proofs.lemmas.Bool.Decides.{nat_tests}
 use Rattle.bits.specs.Signed.{twos, signed_of}
@@ -23,6 +23,10 @@ low_bits (negsuc n) w h k f =
     let one = ap (λ x. x * 2 ^ w) q ∙ add-mul (2 ^ (32 - w) - 1) 1 (2 ^ w) in
     let split : 2 ^ 32 - suc n ≡ (2 ^ (32 - w) - 1) * 2 ^ w + (2 ^ w - suc n) = omega (arith, double w h) in
     ap (λ x. x % 2 ^ w) split ∙ mod_low (2 ^ (32 - w) - 1) w (2 ^ w - suc n) (omega (arith, pow_pos w))
+
+-- the same as it is computed, from the number m of those bits
+pub low_bits_computed : (v : ℤ) (w m : ℕ) → 1 ≤ w → w ≤ 32 → mag v < 2 ^ (w - 1) → m ≡ of_z w32 v → m % ((1 * 2 ^ w) % 18446744073709551616) ≡ twos w v
+low_bits_computed v w m h k f e = rw (one_shl w 64 (omega arith), e) (low_bits v w h k f)
 
 -- what is written is read again
 pub signed_twos : (v : ℤ) (w : ℕ) → 1 ≤ w → mag v < 2 ^ (w - 1) → signed_of w (twos w v) ≡ v

@@ -1,5 +1,6 @@
 // Fields of up to 32 bits at any bit place of lent bytes, most significant bit first.
 // Inner code: its calls ask what their proved callers show, and refuse nothing.
+// A struct of place and width would be no plainer: each call has a place of its own, and would build the struct for itself.
 #![tactic(auto)]
 
 mod read;

@@ -1,16 +1,20 @@
 // Reading a field: five bytes, which hold every bit of it, are joined to one number, of which the field is a part.
-ghost use Rattle.std.specs.Prelude.{◌≡◌, ◌+◌, ◌*◌, ◌^◌, ◌<◌, ◌≤◌, length, slice_index};
+ghost use Rattle.std.specs.Prelude.{◌≡◌, ◌+◌, ◌*◌, ◌^◌, ◌<◌, ◌≤◌, length};
 ghost use Rattle.bits.specs.Fields.{field};
+
+use std::array;
 
 // The five bytes from `first` on, the first of them the highest.
 fn five_bytes(bytes: &[u8], first: usize) -> u64
     requires { first + 5 ≤ length bytes.now }
     ensures { result ≡ field bytes.now (8 * first) 40 }
 {
-    let four = (u32::from(bytes[first]) << 24)
-        + (u32::from(bytes[first + 1]) << 16)
-        + (u32::from(bytes[first + 2]) << 8)
-        + u32::from(bytes[first + 3]);
+    let four = u32::from_be_bytes([
+        bytes[first],
+        bytes[first + 1],
+        bytes[first + 2],
+        bytes[first + 3],
+    ]);
     (u64::from(four) << 8) + u64::from(bytes[first + 4])
 }
 
@@ -19,22 +23,8 @@ fn last_bytes(bytes: &[u8], first: usize) -> u64
     requires { first < 2 ^ 32 }
     ensures { result ≡ field bytes.now (8 * first) 40 }
 {
-    let mut joined = 0u64;
-    for i in first..first + 5 {
-        joined = (joined << 8) + byte_or_zero(bytes, i);
-    }
-    joined
-}
-
-fn byte_or_zero(bytes: &[u8], i: usize) -> u64
-    ensures value { result ≡ slice_index bytes.now i }
-    ensures bound { result < 256 }
-{
-    if i < bytes.len() {
-        u64::from(bytes[i])
-    } else {
-        0
-    }
+    let five: [u8; 5] = array::from_fn(|i| bytes.get(first + i).copied().unwrap_or(0));
+    five_bytes(&five, 0)
 }
 
 // The `width` bits from `place` on, as a number; at most five bytes are read.

@@ -4,6 +4,7 @@ ghost use Rattle.std.specs.Int.Signed.{mag};
 ghost use Rattle.bits.specs.Signed.{twos, signed_of};
 
 // The number that stands for `value` in a field of `width` bits.
+#[tactic(auto, using(crate::proofs::Twos::low_bits_computed))]
 pub fn to_twos(value: i32, width: u32) -> u64
     requires low { 1 ≤ width }
     requires high { width ≤ 32 }

@@ -3,6 +3,7 @@ ghost use Rattle.std.specs.Prelude.{◌≡◌, ◌+◌, ◌*◌, ◌%◌, ◌^�
 ghost use Rattle.bits.specs.Fields.{with_part, Wrote};
 
 // The byte `old` with `value` in the `width` bits above the lowest `low`.
+#[tactic(auto, using(crate::proofs::Writes::part_computed))]
 fn merged(old: u8, low: usize, width: usize, value: u8) -> u8
     requires one_byte { low + width ≤ 8 }
     requires fits { value < 2 ^ width }
@@ -35,6 +36,7 @@ pub fn write_field(bytes: &mut [u8], place: usize, width: usize, value: u64)
     ensures { Wrote bytes.old bytes.new place width value }
 {
     let mut done = 0;
+    // A range or an iterator would be no plainer: each part is as long as its byte leaves room.
     while done < width {
         let here = place + done;
         let part = (8 - here % 8).min(width - done);

@@ -42,10 +42,7 @@ impl fmt::Display for Failure {
             ),
             Failure::Point => write!(f, "expected `ask POINT`, with a point from 0 to 65535"),
             Failure::Line(line, expected) => write!(f, "line {line}: expected {expected}"),
-            Failure::NoHandle => write!(
-                f,
-                "end of input: expected `handle N`, with N from 0 to 4294967295"
-            ),
+            Failure::NoHandle => write!(f, "end of input: expected {}", Expected::Handle),
             Failure::Memory => write!(f, "no memory"),
             Failure::Stream(e) => write!(f, "{e}"),
         }
@@ -58,6 +55,7 @@ impl From<io::Error> for Failure {
     }
 }
 
+// By hand, and twice: a derived conversion keeps the error, and a `NotEncoded` or `NotRead` that tells of no memory has none.
 impl From<AllocError> for Failure {
     fn from(_e: AllocError) -> Failure {
         Failure::Memory

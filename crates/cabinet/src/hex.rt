@@ -1,9 +1,8 @@
 // Bytes as hexadecimal text.
 ghost use Rattle.std.specs.Prelude.{◌≡◌, ◌<◌, IfSome, Some};
-ghost use Rattle.cabinet.specs.Digits.{digit_value};
+ghost use Rattle.cabinet.specs.Digits.{byte_of, digit_of, digit_value, digits_of, spelled};
 
-use crate::failure::Failure;
-use std::alloc::Global;
+use std::fmt;
 
 // The value of a digit, either case.
 fn digit_value(digit: u8) -> Option<u8>
@@ -21,6 +20,7 @@ fn digit_value(digit: u8) -> Option<u8>
 // The digit of a value: reading it gives the value again.
 fn digit_of(value: u8) -> u8
     requires { value < 16 }
+    ensures value { result ≡ digit_of value }
     ensures reads { digit_value result ≡ Some value }
     ensures upper { result < 71 }
 {
@@ -31,31 +31,43 @@ fn digit_of(value: u8) -> u8
     }
 }
 
-// The bytes that a word spells, pushed behind those that are there; false if it spells none.
-pub fn push_word(bytes: &mut Vec<u8>, word: &str) -> Result<bool, Failure> {
-    let digits = word.as_bytes();
-    if digits.len() % 2 != 0 {
-        return Ok(false);
+// The byte that two digits spell; what is not two digits spells none.
+pub fn byte_of(pair: &[u8]) -> Option<u8>
+    ensures { result ≡ byte_of pair.now }
+{
+    match *pair {
+        [high, low] => Some(16 * digit_value(high)? + digit_value(low)?),
+        _ => None,
     }
-    for i in 0..digits.len() / 2 {
-        let (Some(high), Some(low)) = (digit_value(digits[2 * i]), digit_value(digits[2 * i + 1]))
-        else {
-            return Ok(false);
-        };
-        bytes.push(16 * high + low)?;
-    }
-    Ok(true)
 }
 
-// Two digits a byte, one space between.
-pub fn spelled(heap: Global, bytes: &[u8]) -> Result<String, Failure> {
-    let mut text = String::new(heap);
-    for (i, byte) in bytes.iter().enumerate() {
-        if i > 0 {
-            text.push(' ')?;
-        }
-        text.push(char::from(digit_of(*byte / 16)))?;
-        text.push(char::from(digit_of(*byte % 16)))?;
+// A byte, printed as its two digits.
+#[derive(Clone, Copy)]
+struct TwoDigits(u8);
+
+impl fmt::Display for TwoDigits {
+    ghost output = { λ b. Some (digits_of b.0) };
+
+    fn fmt<W: fmt::Write>(&self, f: &mut fmt::Formatter<W>) -> fmt::Result {
+        f.write_char(char::from(digit_of(self.0 / 16)))?;
+        f.write_char(char::from(digit_of(self.0 % 16)))
     }
-    Ok(text)
+}
+
+// Bytes, printed with one space between.
+#[derive(Clone, Copy)]
+pub struct Spelled<'a>(pub &'a [u8]);
+
+impl fmt::Display for Spelled<'_> {
+    ghost output = { λ s. Some (spelled s.0.now) };
+
+    fn fmt<W: fmt::Write>(&self, f: &mut fmt::Formatter<W>) -> fmt::Result {
+        if let Some((first, rest)) = self.0.split_first() {
+            write!(f, "{}", TwoDigits(*first))?;
+            for byte in rest {
+                write!(f, " {}", TwoDigits(*byte))?;
+            }
+        }
+        Ok(())
+    }
 }

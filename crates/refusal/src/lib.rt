@@ -1,25 +1,27 @@
 // Why a call was refused: one closed list for the whole cabinet, each case with its number.
 #![tactic(auto)]
 
-ghost use Rattle.std.specs.Prelude.{◌≡◌};
+ghost use Rattle.std.specs.Prelude.{◌≡◌, Some, decimal};
 ghost use Rattle.refusal.specs.Cases.{case_of};
+
+use std::fmt;
 
 #[derive(Clone, Copy, PartialEq, Eq, Debug)]
 pub enum Refusal {
     // Writing a picture.
-    NotAbove,
-    TooMany,
-    ShortBuffer,
-    TooWide,
-    AllIn,
-    Unfinished,
+    NotAbove = 11,
+    TooMany = 12,
+    ShortBuffer = 13,
+    TooWide = 14,
+    AllIn = 15,
+    Unfinished = 16,
     // Reading a picture.
-    TooShort,
-    BadHead,
-    WrongLength,
-    NotRising,
-    WidthNotLeast,
-    PaddingSet,
+    TooShort = 17,
+    BadHead = 18,
+    WrongLength = 19,
+    NotRising = 20,
+    WidthNotLeast = 21,
+    PaddingSet = 22,
 }
 
 impl Refusal {
@@ -27,19 +29,44 @@ impl Refusal {
     pub fn number(self) -> u8
         ensures { result ≡ (case_of self).number }
     {
-        match self {
-            Refusal::NotAbove => 11,
-            Refusal::TooMany => 12,
-            Refusal::ShortBuffer => 13,
-            Refusal::TooWide => 14,
-            Refusal::AllIn => 15,
-            Refusal::Unfinished => 16,
-            Refusal::TooShort => 17,
-            Refusal::BadHead => 18,
-            Refusal::WrongLength => 19,
-            Refusal::NotRising => 20,
-            Refusal::WidthNotLeast => 21,
-            Refusal::PaddingSet => 22,
+        self as u8
+    }
+}
+
+// A user is shown the number.
+impl fmt::Display for Refusal {
+    ghost output = { λ refusal. Some (decimal (case_of refusal).number) };
+
+    fn fmt<W: fmt::Write>(&self, f: &mut fmt::Formatter<W>) -> fmt::Result {
+        write!(f, "{}", self.number())
+    }
+}
+
+#[cfg(test)]
+mod tests {
+    use super::*;
+    use std::test::Fail;
+
+    #[test]
+    fn each_case_is_shown_as_its_number(rt: HostRuntime) -> Result<(), Fail> {
+        let table = [
+            (Refusal::NotAbove, "refused 11"),
+            (Refusal::TooMany, "refused 12"),
+            (Refusal::ShortBuffer, "refused 13"),
+            (Refusal::TooWide, "refused 14"),
+            (Refusal::AllIn, "refused 15"),
+            (Refusal::Unfinished, "refused 16"),
+            (Refusal::TooShort, "refused 17"),
+            (Refusal::BadHead, "refused 18"),
+            (Refusal::WrongLength, "refused 19"),
+            (Refusal::NotRising, "refused 20"),
+            (Refusal::WidthNotLeast, "refused 21"),
+            (Refusal::PaddingSet, "refused 22"),
+        ];
+        for (refusal, shown) in table {
+            let text = format!(in rt.alloc(); "refused {refusal}")?;
+            assert_eq!(rt; text.as_str(), shown);
         }
+        Ok(())
     }
 }

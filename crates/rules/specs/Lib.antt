@@ -1,2 +1,3 @@
 pub mod Books
+pub mod Codes
 pub mod Worked

@@ -1,13 +1,40 @@
 // The claim book: a point that has at most one holder, until that holder gives it up.
 ghost use Rattle.std.specs.Prelude.{◌≡◌};
 ghost use Rattle.rules.specs.Books.{claim, give_up, claims};
+ghost use Rattle.rules.specs.Codes.{claim_code, Decodes};
 ghost use Rattle.std.proofs.Common.{rules};
 
-use crate::book::{Outcome, RuleBook};
+use crate::book::{Outcome, RuleBook, UnknownCode};
 
-const CLAIM: u8 = 1;
+// The rules of the book, each with its code.
+#[derive(Clone, Copy, PartialEq, Eq, Debug)]
+pub enum ClaimRule {
+    Claim = 1,
+    GiveUp = 2,
+}
 
-const GIVE_UP: u8 = 2;
+// As for the meter's rules: one impl for all rules would be an impl of std's traits for every type, which is refused.
+impl From<ClaimRule> for u8 {
+    ghost from_gives = { λ rule code. code ≡ claim_code rule };
+
+    fn from(rule: ClaimRule) -> u8 {
+        rule as u8
+    }
+}
+
+impl TryFrom<u8> for ClaimRule {
+    type Error = UnknownCode;
+
+    ghost try_from_gives = { Decodes claims claim_code };
+
+    fn try_from(code: u8) -> Result<Self, UnknownCode> {
+        match code {
+            1 => Ok(ClaimRule::Claim),
+            2 => Ok(ClaimRule::GiveUp),
+            _ => Err(UnknownCode(code)),
+        }
+    }
+}
 
 #[derive(Clone, Copy)]
 pub struct Claims;
@@ -18,14 +45,14 @@ impl RuleBook for Claims {
     ghost unknown_leaves = { Prim.search rules };
 
     fn knows(&self, code: u8) -> bool {
-        matches!(code, CLAIM | GIVE_UP)
+        ClaimRule::try_from(code).is_ok()
     }
 
     fn decide(&self, code: u8, argument: i32, old: Option<i32>) -> Outcome {
-        match code {
-            CLAIM => claim(argument, old),
-            GIVE_UP => give_up(argument, old),
-            _ => Outcome::Leave,
+        match ClaimRule::try_from(code) {
+            Ok(ClaimRule::Claim) => claim(argument, old),
+            Ok(ClaimRule::GiveUp) => give_up(argument, old),
+            Err(_) => Outcome::Leave,
         }
     }
 }
@@ -53,6 +80,10 @@ fn give_up(argument: i32, old: Option<i32>) -> Outcome
 #[cfg(test)]
 mod tests {
     use super::*;
+
+    const CLAIM: u8 = ClaimRule::Claim as u8;
+
+    const GIVE_UP: u8 = ClaimRule::GiveUp as u8;
 
     #[test]
     fn outcomes_at_the_edges(rt: HostRuntime) {

@@ -7,13 +7,13 @@ mod meter;
 mod worked;
 
 // What every rule book answers: whether it knows a code, and the outcome. An unknown code leaves all as it is.
-pub use book::{Outcome, RuleBook};
+pub use book::{Outcome, RuleBook, UnknownCode};
 
 // The meter book: add to a value, and keep the greatest.
-pub use meter::Meter;
+pub use meter::{Meter, MeterRule};
 
 // The claim book: claim what has no holder, and give it up again.
-pub use claim::Claims;
+pub use claim::{ClaimRule, Claims};
 
 // Worked cases, proved.
 pub use worked::worked_rules_stand;

@@ -1,13 +1,39 @@
 // The meter book: a point that counts, or keeps the greatest value that it was given.
 ghost use Rattle.std.specs.Prelude.{◌≡◌};
 ghost use Rattle.rules.specs.Books.{add, peak, meter};
+ghost use Rattle.rules.specs.Codes.{meter_code, Decodes};
 ghost use Rattle.std.proofs.Common.{rules};
 
-use crate::book::{Outcome, RuleBook};
+use crate::book::{Outcome, RuleBook, UnknownCode};
 
-pub(crate) const ADD: u8 = 1;
+// The rules of the book, each with its code.
+#[derive(Clone, Copy, PartialEq, Eq, Debug)]
+pub enum MeterRule {
+    Add = 1,
+    Peak = 2,
+}
 
-pub(crate) const PEAK: u8 = 2;
+impl From<MeterRule> for u8 {
+    ghost from_gives = { λ rule code. code ≡ meter_code rule };
+
+    fn from(rule: MeterRule) -> u8 {
+        rule as u8
+    }
+}
+
+impl TryFrom<u8> for MeterRule {
+    type Error = UnknownCode;
+
+    ghost try_from_gives = { Decodes meter meter_code };
+
+    fn try_from(code: u8) -> Result<Self, UnknownCode> {
+        match code {
+            1 => Ok(MeterRule::Add),
+            2 => Ok(MeterRule::Peak),
+            _ => Err(UnknownCode(code)),
+        }
+    }
+}
 
 #[derive(Clone, Copy)]
 pub struct Meter;
@@ -18,14 +44,14 @@ impl RuleBook for Meter {
     ghost unknown_leaves = { Prim.search rules };
 
     fn knows(&self, code: u8) -> bool {
-        matches!(code, ADD | PEAK)
+        MeterRule::try_from(code).is_ok()
     }
 
     fn decide(&self, code: u8, argument: i32, old: Option<i32>) -> Outcome {
-        match code {
-            ADD => add(argument, old),
-            PEAK => peak(argument, old),
-            _ => Outcome::Leave,
+        match MeterRule::try_from(code) {
+            Ok(MeterRule::Add) => add(argument, old),
+            Ok(MeterRule::Peak) => peak(argument, old),
+            Err(_) => Outcome::Leave,
         }
     }
 }
@@ -53,6 +79,10 @@ fn peak(argument: i32, old: Option<i32>) -> Outcome
 #[cfg(test)]
 mod tests {
     use super::*;
+
+    const ADD: u8 = MeterRule::Add as u8;
+
+    const PEAK: u8 = MeterRule::Peak as u8;
 
     #[test]
     fn outcomes_at_the_edges(rt: HostRuntime) {

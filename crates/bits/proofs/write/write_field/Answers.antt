@@ -5,7 +5,7 @@ use Rattle.bits.proofs.Writes.{wrote_none, wrote_turn}
 use Rattle.bits.proofs.write.write_field.Goals as goal
 
 pub loop-done-init : goal.loop-done-init
-loop-done-init c = (rw sub-zero (wrote_none c.args.bytes.now c.args.place c.args.value c.args.width (search rules)), search rules)
+loop-done-init c = search (rules, sub-zero, wrote_none)
 
 pub loop-done-preserved : goal.loop-done-preserved
 loop-done-preserved c = (
