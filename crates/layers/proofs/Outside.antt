@@ -1,12 +1,12 @@
 -- What lies outside the least and the greatest point of a list of versions, and these two after a taking. Assumes nothing.
-use Rattle.std.proofs.Common.{◌≡◌, ℕ, ◌<◌, min, max, false, not, ◌&&◌, eqb, leb, List, [], ◌∷◌, ◌++◌, Some, None, Ok, Option, Result, sym, refl, ap, ◌∙◌, subst, arith}
-use Rattle.std.proofs.lemmas.Bool.{cond_both, cond-false}
+use Rattle.std.proofs.Common.{◌≡◌, ℕ, ◌<◌, min, max, false, not, ◌&&◌, eqb, leb, List, [], ◌∷◌, ◌++◌, Some, None, Option, refl, ap, ◌∙◌, arith}
+use Rattle.std.proofs.lemmas.Bool.{cond-false}
 use Rattle.std.proofs.lemmas.Bool.Decides.{nat_tests}
 use Rattle.layers.specs.Fences.{widened, bounds_of, reached, covered}
 use Rattle.layers.specs.declared.fence.Bounds.{Bounds}
-use Rattle.version.specs.Lists.{newest, first_from, left_by, insert}
-use Rattle.version.specs.Order.{ahead, place_of, before, Kept}
-use Rattle.version.specs.declared.types.NotTaken.{NotTaken}
+use Rattle.version.specs.Kinds.{StandsBetween}
+use Rattle.version.specs.Lists.{newest, first_from}
+use Rattle.version.specs.Order.{ahead, place_of}
 use Rattle.version.specs.declared.types.Place.{Place}
 use Rattle.version.specs.declared.types.Version.{Version}
 
@@ -48,21 +48,10 @@ widened_swap (Some b) p q =
     let e : min (min b.least p) q ≡ min (min b.least q) p = omega arith in
     let f : max (max b.greatest p) q ≡ max (max b.greatest q) p = omega arith in cc
 
-pub bounds_insert : (vs : List Version) (v : Version) → bounds_of (insert vs v) ≡ Some (widened (bounds_of vs) v.point)
-bounds_insert [] v = refl
-bounds_insert (w ∷ ws) v = cond_both (before v w) (v ∷ w ∷ ws) (w ∷ insert ws v) (λ l. bounds_of l ≡ Some (widened (bounds_of (w ∷ ws)) v.point))
-    (λ _. refl)
-    (λ _. ap (λ o. Some (widened o w.point)) (bounds_insert ws v) ∙ ap Some (widened_swap (bounds_of ws) v.point w.point))
+bounds_between : (us ws : List Version) (v : Version) → bounds_of (us ++ (v ∷ ws)) ≡ Some (widened (bounds_of (us ++ ws)) v.point)
+bounds_between [] ws v = refl
+bounds_between (u ∷ us) ws v = ap (λ o. Some (widened o u.point)) (bounds_between us ws v) ∙ ap Some (widened_swap (bounds_of (us ++ ws)) v.point u.point)
 
-pub bounds_append : (vs : List Version) (v : Version) → bounds_of (vs ++ (v ∷ [])) ≡ Some (widened (bounds_of vs) v.point)
-bounds_append [] v = refl
-bounds_append (w ∷ ws) v = ap (λ o. Some (widened o w.point)) (bounds_append ws v) ∙ ap Some (widened_swap (bounds_of ws) v.point w.point)
-
--- what a fence keeps when the part below took a version, and its list became new
-pub stays : (vs new after : List Version) (limit limit' : ℕ) (v : Version) (r : Result (Unit {0}) NotTaken) (t : Unit {0})
-    → Ok t ≡ r → after ≡ left_by r vs new → limit' ≡ limit → Kept (left_by r vs new) limit → bounds_of new ≡ Some (widened (bounds_of vs) v.point)
-    → (o : Option Bounds) (w : Bounds) → o ≡ bounds_of vs → w ≡ widened o v.point → Kept after limit' × (Some w ≡ bounds_of after)
-stays vs new after limit limit' v r t ok is same kept grown o w old more = (
-  subst (Kept after) (sym same) (subst (λ l. Kept l limit) (sym is) kept),
-  ap Some (more ∙ ap (λ b. widened b v.point) old) ∙ sym grown ∙ ap (λ a. bounds_of (left_by a vs new)) ok ∙ ap bounds_of (sym is),
-)
+-- wherever a version goes in, the bounds widen by its point alone
+pub bounds_put : (vs new : List Version) (v : Version) → StandsBetween vs v new → bounds_of new ≡ Some (widened (bounds_of vs) v.point)
+bounds_put vs new v (us, ws, old, is) = rw (is, old) (bounds_between us ws v)

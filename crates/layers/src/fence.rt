@@ -1,9 +1,8 @@
 // A fence: a layer over any part that answers by itself what the least and the greatest point held decide.
 ghost use Rattle.std.specs.Prelude.{◌≡◌, []};
 ghost use Rattle.layers.specs.Fences.{widened, bounds_of, reached, covered};
-ghost use Rattle.version.specs.Order.{Kept};
 
-use version::{FlashPart, MemoryPart, NotTaken, Part, Place, Version};
+use version::{Kind, NotTaken, Part, Place, TakingPart, Version};
 
 // The least and the greatest point held.
 #[derive(Clone, Copy)]
@@ -37,7 +36,7 @@ fn widen(bounds: Option<Bounds>, point: u16) -> Bounds
 impl<P: Part> Fence<P> {
     // A fence over a part, which it empties.
     pub fn new(mut below: P) -> Fence<P>
-        ensures sound { P.Part.sound result.below × Kept (P.Part.versions result.below) (P.Part.most result.below) × (result.bounds ≡ bounds_of (P.Part.versions result.below)) }
+        ensures sound { P.Part.sound result.below × (result.bounds ≡ bounds_of (P.Part.versions result.below)) }
         ensures empty { P.Part.versions result.below ≡ [] }
         ensures same { P.Part.most result.below ≡ P.Part.most below }
     {
@@ -54,20 +53,15 @@ impl<P> Fence<P> {
     fn reaches(&self, point: u16) -> bool
         ensures { result ≡ reached self.now.bounds point }
     {
-        match self.bounds {
-            None => false,
-            Some(bounds) => point <= bounds.greatest,
-        }
+        self.bounds.is_some_and(|bounds| point <= bounds.greatest)
     }
 
     // Whether this point lies between the least and the greatest point held.
     fn covers(&self, point: u16) -> bool
         ensures { result ≡ covered self.now.bounds point }
     {
-        match self.bounds {
-            None => false,
-            Some(bounds) => bounds.least <= point && point <= bounds.greatest,
-        }
+        self.bounds
+            .is_some_and(|bounds| bounds.least <= point && point <= bounds.greatest)
     }
 }
 
@@ -77,7 +71,9 @@ impl<P: Part> Part for Fence<P> {
     ghost most = { λ f. P.Part.most f.below };
 
     // the part below is sound, and the bounds are those of its versions
-    ghost sound = { λ f. P.Part.sound f.below × Kept (P.Part.versions f.below) (P.Part.most f.below) × (f.bounds ≡ bounds_of (P.Part.versions f.below)) };
+    ghost sound = { λ f. P.Part.sound f.below × (f.bounds ≡ bounds_of (P.Part.versions f.below)) };
+
+    ghost kept = { λ f s. P.Part.kept f.below s.0 };
 
     fn count(&self) -> usize {
         match self.bounds {
@@ -98,9 +94,9 @@ impl<P: Part> Part for Fence<P> {
         }
     }
 
-    fn newest(&self, point: u16, number: u32) -> Option<Version> {
-        if self.covers(point) {
-            self.below.newest(point, number)
+    fn newest(&self, place: Place) -> Option<Version> {
+        if self.covers(place.point) {
+            self.below.newest(place)
         } else {
             None
         }
@@ -112,17 +108,9 @@ impl<P: Part> Part for Fence<P> {
     }
 }
 
-impl<P: MemoryPart> MemoryPart for Fence<P> {
+impl<K: Kind, P: TakingPart<K>> TakingPart<K> for Fence<P> {
     fn take(&mut self, version: Version) -> Result<(), NotTaken> {
         self.below.take(version)?;
-        self.bounds = Some(widen(self.bounds, version.point));
-        Ok(())
-    }
-}
-
-impl<P: FlashPart> FlashPart for Fence<P> {
-    fn append(&mut self, version: Version) -> Result<(), NotTaken> {
-        self.below.append(version)?;
         self.bounds = Some(widen(self.bounds, version.point));
         Ok(())
     }

@@ -8,7 +8,8 @@ use Rattle.version.specs.Lists.{Reaches, first_from, held}
 use Rattle.version.specs.Order.{ahead, place_of, before}
 use Rattle.version.specs.declared.types.Place.{Place}
 use Rattle.version.specs.declared.types.Version.{Version}
-use Rattle.version.proofs.Firsts.{some_none, reaches_is}
+use Rattle.std.proofs.lemmas.Option.{none-some}
+use Rattle.version.proofs.Firsts.{reaches_is}
 use Rattle.version.proofs.Sorts.{◌∈◌, Sorted}
 use Rattle.version.proofs.Takings.{Reached, AllAhead, head_of, first_from_cut, held_beyond, held_here}
 use Rattle.linked.specs.Chains.{node, walk, chain, at_all, versions, all_below, gap_at, Within, version_at, alike}
@@ -29,7 +30,7 @@ last_some o (i ∷ is) p e = ⊎_elim
     (last_some (Some i) is p e)
 
 last_never : (i : ℕ) (is : List ℕ) → last_index (Some i) is ≡ None → ⊥
-last_never i [] e = some_none i e
+last_never i [] e = none-some i (sym e)
 last_never i (j ∷ is) e = last_never j is e
 
 pub last_none : (is : List ℕ) → last_index None is ≡ None → is ≡ []

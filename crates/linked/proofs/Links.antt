@@ -1,10 +1,10 @@
 -- Chains of nodes as lists of indices: where a chain ends, its steps, and what a change of other nodes leaves. Assumes nothing.
-use Rattle.std.proofs.Common.{◌≡◌, ℕ, zero, suc, ◌<◌, ◌≤◌, true, ltb, List, [], ◌∷◌, ◌++◌, length, Some, None, Option, sym, refl, ap, subst, ⊎_elim, arith}
+use Rattle.std.proofs.Common.{◌≡◌, ℕ, zero, suc, ◌<◌, ◌≤◌, true, ltb, List, [], ◌∷◌, ◌++◌, length, Some, None, Option, sym, refl, ap, subst, arith}
 use mathlib.Core.List.Memᴰ
 use Rattle.std.proofs.lemmas.List.{length-map}
-use Rattle.std.proofs.lemmas.Bool.{and_parts, and_from, ltb-true, lt-ltb}
-use Rattle.version.proofs.Firsts.{some_same, some_none}
-use Rattle.version.proofs.Sorts.{◌∈◌}
+use Rattle.std.proofs.lemmas.Bool.{ltb-true, lt-ltb}
+use Rattle.std.proofs.lemmas.Option.{none-some, same_Some}
+use Rattle.version.proofs.Sorts.{◌∈◌, each_of, every_from}
 use Rattle.linked.specs.Chains.{node, walk, chain, at_all, versions, all_below}
 use Rattle.linked.specs.declared.node.Node.{Node}
 
@@ -21,10 +21,10 @@ walk_linked (suc n) ns (Some i) h = (refl, walk_linked n ns (node ns i).next (om
 linked_walk : (n : ℕ) (ns : List Node) (o : Option ℕ) (is : List ℕ) → Linked ns o is → length is < n → walk n ns o ≡ is
 linked_walk zero ns o is l h = absurd (omega arith)
 linked_walk (suc n) ns None [] l h = refl
-linked_walk (suc n) ns (Some i) [] l h = absurd (some_none i l)
-linked_walk (suc n) ns None (j ∷ is) l h = absurd (some_none j (sym l.0))
+linked_walk (suc n) ns (Some i) [] l h = absurd (none-some i (sym l))
+linked_walk (suc n) ns None (j ∷ is) l h = absurd (none-some j l.0)
 linked_walk (suc n) ns (Some i) (j ∷ is) l h =
-    rw (some_same i j l.0) (ap (λ ks. j ∷ ks) (linked_walk n ns (node ns j).next is l.1 (omega arith)))
+    rw (same_Some i j l.0) (ap (λ ks. j ∷ ks) (linked_walk n ns (node ns j).next is l.1 (omega arith)))
 
 -- a chain of no more indices than there are nodes has ended
 pub chain_linked : (ns : List Node) (o : Option ℕ) → length (versions ns o) ≤ length ns → Linked ns o (chain ns o)
@@ -44,14 +44,10 @@ chain_step ns i h =
 -- ---- indices below a number
 
 pub below_each : (n : ℕ) (is : List ℕ) → all_below n is ≡ true → (i : ℕ) → i ∈ is → i < n
-below_each n [] e i m = absurd (Memᴰ.not-nil m)
-below_each n (j ∷ js) e i m =
-    let p = and_parts (ltb j n) (all_below n js) e in
-    ⊎_elim (λ (q : i ≡ j). rw q (ltb-true j n p.0)) (below_each n js p.1 i) (Memᴰ.cases_cons m)
+below_each n is e i m = ltb-true i n (each_of (λ k. ltb k n) is e i m)
 
 pub below_from : (n : ℕ) (is : List ℕ) → ((i : ℕ) → i ∈ is → i < n) → all_below n is ≡ true
-below_from n [] h = refl
-below_from n (j ∷ js) h = and_from (ltb j n) (all_below n js) (lt-ltb j n (h j (Memᴰ.head refl))) (below_from n js (λ i m. h i (Memᴰ.tail m)))
+below_from n is h = every_from (λ k. ltb k n) is (λ i m. lt-ltb i n (h i m))
 
 -- ---- what a change of other nodes leaves
 

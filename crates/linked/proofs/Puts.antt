@@ -4,10 +4,11 @@ use mathlib.Core.List.Memᴰ
 use Rattle.std.proofs.lemmas.List.{length-append, length-set, length-map, map-append, get_or-set_same, get_or-set_other}
 use Rattle.std.proofs.lemmas.Bool.{cases_Bool, both_ways, cases_eq}
 use Rattle.std.proofs.lemmas.Bool.Decides.{nat_tests}
+use Rattle.std.specs.List.{list_all}
 use Rattle.version.specs.Lists.{held, insert}
-use Rattle.version.specs.Order.{place_of, before, every, sorted, numbered}
+use Rattle.version.specs.Order.{place_of, before, sorted, numbered}
 use Rattle.version.specs.declared.types.Version.{Version}
-use Rattle.version.proofs.Firsts.{some_none}
+use Rattle.std.proofs.lemmas.Option.{none-some}
 use Rattle.version.proofs.Sorts.{◌∈◌, Sorted, sorts}
 use Rattle.version.proofs.Takings.{Reached, AllAhead, Beyond, held_here, insert_cut, length_insert, kept_insert}
 use Rattle.linked.specs.Chains.{no_node, node, chain, at_all, versions, all_below, gap_at, written, turned, Chained}
@@ -100,7 +101,7 @@ module _ (ns : List Node) (o : Option ℕ) (v : Version) (k : ℕ) (g : Gap) (h 
               (λ n. ⊎_elim (λ (e : i ≡ k). omega arith) (λ j. let lt = low i (Memᴰ.append_right c.front j) in omega arith) (Memᴰ.cases_cons n))
               (Memᴰ.append_cases c.front m)));
           ordered = subst (λ vs. sorted vs ≡ true) (sym list) kept.ordered;
-          proper = subst (λ vs. every numbered vs ≡ true) (sym list) kept.proper;
+          proper = subst (λ vs. list_all numbered vs ≡ true) (sym list) kept.proper;
         };
         list = list;
         same = same;
@@ -135,7 +136,7 @@ module _ (ns : List Node) (o : Option ℕ) (v : Version) (k : ℕ) (g : Gap) (h 
         whole = ap length same ∙ h.chained.whole;
         inside = subst (λ ks. all_below k ks ≡ true) (sym was) h.chained.inside;
         ordered = subst (λ vs. sorted vs ≡ true) (sym same) h.chained.ordered;
-        proper = subst (λ vs. every numbered vs ≡ true) (sym same) h.chained.proper;
+        proper = subst (λ vs. list_all numbered vs ≡ true) (sym same) h.chained.proper;
       }
 
   pub put_first : g.before ≡ None → Grown ns o v k (written ns k v o) (Some k)
@@ -185,5 +186,5 @@ module _ (ns : List Node) (o : Option ℕ) (v : Version) (k : ℕ) (g : Gap) (h 
   pub put_behind : (p : ℕ) → g.before ≡ Some p → Grown ns o v k (turned (written ns k v g.after) p k) o
   put_behind p e = ⊎_elim
       (λ (r : (js : List ℕ) × (c.front ≡ js ++ p ∷ [])). behind p r.0 r.1)
-      (λ (r : (None ≡ Some p) × (c.front ≡ [])). absurd (some_none p (sym r.0)))
+      (λ (r : (None ≡ Some p) × (c.front ≡ [])). absurd (none-some p r.0))
       (last_some None c.front p (sym c.prior ∙ sym (ap (λ x. x.before) h.stands) ∙ e))

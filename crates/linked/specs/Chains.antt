@@ -1,7 +1,7 @@
 -- Nodes that are chained by index, and the versions that a chain holds.
-use Rattle.std.specs.Prelude.{◌≡◌, ℕ, zero, suc, ◌<◌, Bool, true, false, cond, ◌&&◌, List, [], ◌∷◌, map, length, pos, Some, None, Option, ◌==◌, nat_lt, slice_index_or, slice_set}
-use Rattle.version.specs.Order.{ahead, place_of, every, sorted, numbered}
-use Rattle.version.specs.declared.types.Content.TheVariants.{Value}
+use Rattle.std.specs.Prelude.{◌≡◌, ℕ, zero, suc, ◌<◌, Bool, true, false, cond, ◌&&◌, List, [], ◌∷◌, map, length, Some, None, Option, ◌==◌, nat_lt, slice_index_or, slice_set}
+use Rattle.std.specs.List.{list_all}
+use Rattle.version.specs.Order.{ahead, place_of, sorted, numbered}
 use Rattle.version.specs.declared.types.Place.{Place}
 use Rattle.version.specs.declared.types.Version.{Version}
 use Rattle.linked.specs.declared.node.Gap.{Gap}
@@ -9,7 +9,7 @@ use Rattle.linked.specs.declared.node.Node.{Node}
 
 -- what is read where there is no node
 abbrev pub no_node : Node
-no_node = record { version = record { point = 0; number = 0; content = Value (pos 0) }; next = None }
+no_node = record { version = record { point = 0; number = 0; value = None }; next = None }
 
 -- the node at an index
 abbrev pub node : List Node → ℕ → Node
@@ -35,8 +35,7 @@ versions ns o = at_all ns (chain ns o)
 
 -- each index is below a number
 abbrev pub all_below : ℕ → List ℕ → Bool
-all_below n [] = true
-all_below n (i ∷ is) = nat_lt i n && all_below n is
+all_below n is = list_all (λ i. nat_lt i n) is
 
 -- the gap among indices where a place stands; prev is the index in front of them, if any
 abbrev pub gap_at : List Node → Place → Option ℕ → List ℕ → Gap
@@ -48,7 +47,7 @@ pub record Chained (ns : List Node) (used : ℕ) (o : Option ℕ) : Type 0 where
   pub whole : length (versions ns o) ≡ used
   pub inside : all_below used (chain ns o) ≡ true
   pub ordered : sorted (versions ns o) ≡ true
-  pub proper : every numbered (versions ns o) ≡ true
+  pub proper : list_all numbered (versions ns o) ≡ true
 
 -- ---- changes of links
 

@@ -1,11 +1,12 @@
 // A part that chains its versions by index, in nodes that the caller lends. No version is ever moved.
 ghost use Rattle.std.specs.Prelude.{◌≡◌, ◌+◌, ◌<◌, ◌≤◌, min, true, [], length, Some, None};
-ghost use Rattle.linked.specs.Chains.{Chained, Within, chain, versions, all_below, gap_at, version_at, written, turned, alike};
+ghost use Rattle.std.proofs.Common.{rules};
+ghost use Rattle.linked.specs.Chains.{Chained, Within, chain, versions, gap_at, version_at, written, turned, alike};
 ghost use Rattle.version.specs.Lists.{Reaches, first_from, insert, memory_place};
-ghost use Rattle.version.specs.Order.{every, sorted, numbered, place_of};
+ghost use Rattle.version.specs.Order.{place_of};
 
 use crate::node::{Gap, Node};
-use version::{MEMORY_MOST, MemoryPart, NotTaken, Part, Place, Version, of_point};
+use version::{Kind, Memory, NotTaken, Part, Place, TakingPart, Version};
 
 // The nodes that hold versions are the first ones of the slice, as they came. A chain of links through them keeps
 // version order, so that a taking writes one new node and changes one link.
@@ -17,11 +18,7 @@ pub struct LinkedList<'a> {
     first: Option<u16>,
     ghost few: { length nodes.now ≤ 1024 },
     ghost room: { used ≤ length nodes.now },
-    // the chain ends, and has as many nodes as are used
-    ghost whole: { length (versions nodes.now first) ≡ used },
-    ghost inside: { all_below used (chain nodes.now first) ≡ true },
-    ghost ordered: { sorted (versions nodes.now first) ≡ true },
-    ghost proper: { every numbered (versions nodes.now first) ≡ true },
+    ghost chained: { Chained nodes.now used first },
 }
 
 impl<'a> LinkedList<'a> {
@@ -30,7 +27,7 @@ impl<'a> LinkedList<'a> {
         ensures empty { versions result.nodes.now result.first ≡ [] }
         ensures limit { length result.nodes.now ≡ min (length nodes.old) 1024 }
     {
-        let limit = nodes.len().min(MEMORY_MOST);
+        let limit = nodes.len().min(Memory::MOST);
         LinkedList {
             nodes: &mut nodes[0..limit],
             used: 0,
@@ -130,10 +127,7 @@ impl<'a> LinkedList<'a> {
 fn is_alike(found: Option<Version>, version: Version) -> bool
     ensures { result ≡ alike found version }
 {
-    match found {
-        Some(other) => other.point == version.point && other.number == version.number,
-        None => false,
-    }
+    found.is_some_and(|other| other.place() == version.place())
 }
 
 impl Part for LinkedList<'_> {
@@ -142,6 +136,8 @@ impl Part for LinkedList<'_> {
     ghost most = { λ t. length t.nodes.now };
 
     ghost sound = { λ _. Unit {0} };
+
+    ghost kept = { λ t _. record { ordered = t.chained.ordered; proper = t.chained.proper; within = Prim.search rules } };
 
     fn count(&self) -> usize {
         self.used
@@ -155,17 +151,13 @@ impl Part for LinkedList<'_> {
         self.version_at(self.gap(place).after)
     }
 
-    fn newest(&self, point: u16, number: u32) -> Option<Version> {
-        of_point(self.first_from(Place { point, number }), point)
-    }
-
     fn clear(&mut self) {
         self.used = 0;
         self.first = None;
     }
 }
 
-impl MemoryPart for LinkedList<'_> {
+impl TakingPart<Memory> for LinkedList<'_> {
     fn take(&mut self, version: Version) -> Result<(), NotTaken> {
         let gap = self.gap(version.place());
         if !self.has_place(gap, version) {

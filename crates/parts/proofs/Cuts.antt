@@ -1,23 +1,26 @@
 -- Versions in version order by their index: the rank of a place, and the list cut there. Assumes nothing.
-use Rattle.std.proofs.Common.{◌≡◌, ℕ, zero, suc, ◌+◌, ◌-◌, ◌<◌, ◌≤◌, true, false, not, List, [], ◌∷◌, ◌++◌, length, get_or, take, drop, Some, None, sym, refl, ap, ◌∙◌, subst, ⊎_elim, arith}
+use Rattle.std.proofs.Common.{◌≡◌, ℕ, zero, suc, ◌+◌, ◌-◌, ◌<◌, ◌≤◌, true, false, not, List, [], ◌∷◌, ◌++◌, length, get_or, take, drop, Some, None, Option, sym, refl, ap, ◌∙◌, subst, ⊎_elim, arith}
 use mathlib.Core.List.Memᴰ
 use mathlib.Core.List.{Memᴰ}
 use Rattle.std.proofs.lemmas.List.{take-append-drop, drop_more, drop_all}
-use Rattle.std.proofs.lemmas.Bool.{cond_both, cond-true, cond-false, cases_Bool, cases_lt, not-false, not_from_true, not_from_false}
+use Rattle.std.proofs.lemmas.Bool.{cond_both, cond-true, cond-false, cases_Bool, cases_lt, not_from_true, not_from_false}
+use Rattle.std.proofs.Math.Bool.{not-not}
+use Rattle.std.proofs.lemmas.Option.{slice_get-get_or, slice_get_past}
 use Rattle.std.proofs.lemmas.Bool.Decides.{nat_tests}
 use Rattle.std.specs.List.{insert as inserted}
-use Rattle.parts.specs.Indexed.{rank_of}
-use Rattle.version.specs.Lists.{first_from, held, last, insert}
+use Rattle.std.specs.List.{slice_get}
+use Rattle.parts.specs.Indexed.{rank_of, stands_before, in_front}
+use Rattle.version.specs.Lists.{first_from, Reaches, held, last, insert}
 use Rattle.version.specs.Order.{ahead, place_of, before}
-use Rattle.version.specs.declared.types.Content.TheVariants.{Removed}
 use Rattle.version.specs.declared.types.Place.{Place}
 use Rattle.version.specs.declared.types.Version.{Version}
+use Rattle.version.proofs.Firsts.{reaches_is}
 use Rattle.version.proofs.Sorts.{◌∈◌, Sorted}
 use Rattle.version.proofs.Takings.{AllAhead, Reached, Beyond, held_beyond, held_here, insert_cut}
 
 -- some version, where one has to be named and none is read
 abbrev pub nowhere : Version
-nowhere = record { point = 0; number = 0; content = Removed }
+nowhere = record { point = 0; number = 0; value = None }
 
 -- the element at an index is in the list
 pub at_in : (vs : List Version) (i : ℕ) (d : Version) → i < length vs → get_or vs i d ∈ vs
@@ -44,28 +47,27 @@ rank_is (v ∷ vs) d a (suc r) h below here =
     ap suc (rank_is vs d a r (omega arith) (λ k l. below (suc k) (omega arith)) (λ l. here (omega arith)))
     ∙ sym (cond-true (ahead (place_of v) a) (suc (rank_of vs a)) 0 (below 0 (omega arith)))
 
+-- the test of what is read at an index is that of its element
+pub stands_there : (vs : List Version) (i : ℕ) (d : Version) (a : Place) → i < length vs → stands_before (slice_get vs i) a ≡ ahead (place_of (get_or vs i d)) a
+stands_there vs i d a h = ap (λ o. stands_before o a) (slice_get-get_or vs i d h)
+
 -- what stands at the rank is the first from the place on
-pub first_at_rank : (vs : List Version) (d : Version) (a : Place) → rank_of vs a < length vs → first_from vs a ≡ Some (get_or vs (rank_of vs a) d)
-first_at_rank [] d a h = elim h [ ]
-first_at_rank (v ∷ vs) d a h = ⊎_elim
+pub first_at_rank : (vs : List Version) (a : Place) → slice_get vs (rank_of vs a) ≡ first_from vs a
+first_at_rank [] a = refl
+first_at_rank (v ∷ vs) a = ⊎_elim
     (λ (t : ahead (place_of v) a ≡ true).
-    let r : rank_of (v ∷ vs) a ≡ suc (rank_of vs a) = cond-true (ahead (place_of v) a) (suc (rank_of vs a)) 0 t in
-    cond-false (not (ahead (place_of v) a)) (Some v) (first_from vs a) (not_from_true (ahead (place_of v) a) t) ∙ first_at_rank vs d a (omega (arith, r)) ∙ ap (λ n. Some (get_or (v ∷ vs) n d)) (sym r))
+    ap (slice_get (v ∷ vs)) (cond-true (ahead (place_of v) a) (suc (rank_of vs a)) 0 t) ∙ first_at_rank vs a
+    ∙ sym (cond-false (not (ahead (place_of v) a)) (Some v) (first_from vs a) (not_from_true (ahead (place_of v) a) t)))
     (λ (t : ahead (place_of v) a ≡ false).
-    let r : rank_of (v ∷ vs) a ≡ 0 = cond-false (ahead (place_of v) a) (suc (rank_of vs a)) 0 t in
-    cond-true (not (ahead (place_of v) a)) (Some v) (first_from vs a) (not_from_false (ahead (place_of v) a) t) ∙ ap (λ n. Some (get_or (v ∷ vs) n d)) (sym r))
+    ap (slice_get (v ∷ vs)) (cond-false (ahead (place_of v) a) (suc (rank_of vs a)) 0 t)
+    ∙ sym (cond-true (not (ahead (place_of v) a)) (Some v) (first_from vs a) (not_from_false (ahead (place_of v) a) t)))
     (cases_Bool (ahead (place_of v) a))
 
-pub none_at_rank : (vs : List Version) (a : Place) → length vs ≤ rank_of vs a → first_from vs a ≡ None
-none_at_rank [] a h = refl
-none_at_rank (v ∷ vs) a h = ⊎_elim
-    (λ (t : ahead (place_of v) a ≡ true).
-    let r : rank_of (v ∷ vs) a ≡ suc (rank_of vs a) = cond-true (ahead (place_of v) a) (suc (rank_of vs a)) 0 t in
-    cond-false (not (ahead (place_of v) a)) (Some v) (first_from vs a) (not_from_true (ahead (place_of v) a) t) ∙ none_at_rank vs a (omega (arith, r)))
-    (λ (t : ahead (place_of v) a ≡ false).
-    let r : rank_of (v ∷ vs) a ≡ 0 = cond-false (ahead (place_of v) a) (suc (rank_of vs a)) 0 t in
-    absurd (omega (arith, r)))
-    (cases_Bool (ahead (place_of v) a))
+pub first_got : (vs : List Version) (a : Place) (i : ℕ) → i ≡ rank_of vs a → (o : Option Version) → o ≡ slice_get vs i → o ≡ first_from vs a
+first_got vs a i at o is = is ∙ ap (slice_get vs) at ∙ first_at_rank vs a
+
+pub first_reaches : (vs : List Version) (a : Place) (i : ℕ) → i ≡ rank_of vs a → (o : Option Version) → o ≡ slice_get vs i → Reaches a o
+first_reaches vs a i at o is = reaches_is vs a o (first_got vs a i at o is)
 
 -- ---- the list cut at the rank of a place
 
@@ -101,27 +103,29 @@ module _ (vs : List Version) (v d : Version) (s : Sorted vs) where
   free b = let n = rank_of vs (place_of v) in
       subst (λ l. held l v ≡ false) whole (held_beyond (take n vs) (drop n vs) v (subst Sorted (sym whole) s) (rank_front vs (place_of v)) b)
 
-  -- v is held unless what stands at its rank stands behind it
-  pub held_at_rank : rank_of vs (place_of v) < length vs → held vs v ≡ not (before v (get_or vs (rank_of vs (place_of v)) d))
-  held_at_rank l =
+  -- v is free if it stands in front of what is at its rank
+  pub free_at_rank : not (held vs v) ≡ in_front v (slice_get vs (rank_of vs (place_of v)))
+  free_at_rank =
       let n = rank_of vs (place_of v) in
-      let w = get_or vs n d in
       ⊎_elim
+      (λ (l : n < length vs).
+      let w = get_or vs n d in
+      ap not (⊎_elim
       (λ (b : before v w ≡ true). free (subst (Beyond v) (sym (here l)) b) ∙ sym (not_from_true (before v w) b))
       (λ (b : before v w ≡ false).
       let reached : ahead (place_of w) (place_of v) ≡ false = subst (Reached (place_of v)) (here l) (rank_back vs (place_of v)) in
       let p : w.point ≡ v.point = same_point w v reached b in
       let q : w.number ≡ v.number = same_number w v reached b in
       subst (λ l. held l v ≡ true) (ap (λ l. take n vs ++ l) (sym (here l)) ∙ whole) (held_here (take n vs) (drop (n + 1) vs) w v (rank_front vs (place_of v)) p q) ∙ sym (not_from_false (before v w) b))
-      (cases_Bool (before v w))
-
-  pub held_past : length vs ≤ rank_of vs (place_of v) → held vs v ≡ false
-  held_past l = free (subst (Beyond v) (sym (drop_all (rank_of vs (place_of v)) vs l)) tt)
+      (cases_Bool (before v w)))
+      ∙ not-not (before v w) ∙ ap (in_front v) (sym (slice_get-get_or vs n d l)))
+      (λ l. ap not (free (subst (Beyond v) (sym (drop_all n vs l)) tt)) ∙ ap (in_front v) (sym (slice_get_past vs n l)))
+      (cases_lt n (length vs))
 
   beyond : held vs v ≡ false → Beyond v (drop (rank_of vs (place_of v)) vs)
-  beyond f = ⊎_elim
-      (λ (l : rank_of vs (place_of v) < length vs). subst (Beyond v) (sym (here l)) (not-false (before v (get_or vs (rank_of vs (place_of v)) d)) (sym (held_at_rank l) ∙ f)))
-      (λ l. subst (Beyond v) (sym (drop_all (rank_of vs (place_of v)) vs l)) tt) (cases_lt (rank_of vs (place_of v)) (length vs))
+  beyond f = let n = rank_of vs (place_of v) in ⊎_elim
+      (λ (l : n < length vs). subst (Beyond v) (sym (here l)) (ap (in_front v) (sym (slice_get-get_or vs n d l)) ∙ sym free_at_rank ∙ ap not f))
+      (λ l. subst (Beyond v) (sym (drop_all n vs l)) tt) (cases_lt n (length vs))
 
   -- a version that is free goes in at its rank
   pub insert_at_rank : held vs v ≡ false → inserted vs (rank_of vs (place_of v)) v ≡ insert vs v
@@ -130,9 +134,9 @@ module _ (vs : List Version) (v d : Version) (s : Sorted vs) where
 
 -- ---- the last version
 
-pub last_at : (vs : List Version) (d : Version) → 0 < length vs → last vs ≡ Some (get_or vs (length vs - 1) d)
-last_at [] d h = elim h [ ]
-last_at (v ∷ []) d h = refl
-last_at (v ∷ w ∷ ws) d h =
+pub last_read : (vs : List Version) → last vs ≡ slice_get vs (length vs - 1)
+last_read [] = refl
+last_read (v ∷ []) = refl
+last_read (v ∷ w ∷ ws) =
     let e : suc (suc (length ws)) - 1 ≡ suc (suc (length ws) - 1) = omega arith in
-    last_at (w ∷ ws) d (omega arith) ∙ ap (λ n. Some (get_or (v ∷ w ∷ ws) n d)) (sym e)
+    last_read (w ∷ ws) ∙ ap (slice_get (v ∷ w ∷ ws)) (sym e)

@@ -6,7 +6,8 @@ mod rows;
 mod table;
 
 // A sorted table, as memory part and as flash part.
-pub use table::{Flash, FlashTable, Memory, MemoryTable, SortedTable};
+pub use table::{FlashTable, MemoryTable, SortedTable};
+pub use version::{Flash, Memory};
 
 // Records of 81 bits in bytes, as flash part.
 pub use packed::PackedFlash;

@@ -1,39 +1,33 @@
 // Packed flash: a flash part whose versions lie as 81-bit records in the caller's bytes, without gaps.
-ghost use Rattle.std.specs.Prelude.{◌≡◌, ◌+◌, ◌*◌, ◌^◌, ◌<◌, ◌≤◌, true, [], length};
+ghost use Rattle.std.specs.Prelude.{◌≡◌, ◌+◌, ◌*◌, ◌^◌, ◌<◌, ◌≤◌, [], length};
 ghost use Rattle.bits.specs.Fields.{Wrote};
-ghost use Rattle.parts.specs.Packed.{room, removed_bit, value_bits, record_number, content_of, version_at, versions_in, Packs, Appends};
+ghost use Rattle.parts.specs.Packed.{room, removed_bit, value_bits, record_number, value_of, version_at, versions_in, Packs, Appends};
 ghost use Rattle.version.specs.Lists.{flash_answer, flash_after};
-ghost use Rattle.version.specs.Order.{sorted, every, numbered};
+ghost use Rattle.version.specs.Order.{Kept};
 
-use crate::rows::{Rows, first_in, newest_in, place_behind};
+use crate::rows::{Rows, admitted, first_in};
 use std::mem;
-use version::{Content, FLASH_MOST, FlashPart, NotTaken, Part, Place, Version};
+use version::{Flash, Kind, NotTaken, Part, Place, TakingPart, Version};
 
 // ---- one record
 
 const RECORD_BITS: usize = 81;
 
 // The removed bit: 1 if the point was removed.
-fn removed_bit(content: Content) -> u64
-    ensures value { result ≡ removed_bit content }
+fn removed_bit(value: Option<i32>) -> u64
+    ensures value { result ≡ removed_bit value }
     ensures bound { result < 2 }
 {
-    match content {
-        Content::Value(_) => 0,
-        Content::Removed => 1,
-    }
+    u64::from(value.is_none())
 }
 
-// The value in two's complement, or 0 if the point was removed; with the removed bit it gives the content back.
-fn value_bits(content: Content) -> u64
-    ensures value { result ≡ value_bits content }
+// The value in two's complement, or 0 if the point was removed; with the removed bit it gives the value back.
+fn value_bits(value: Option<i32>) -> u64
+    ensures value { result ≡ value_bits value }
     ensures bound { result < 2 ^ 32 }
-    ensures back { content_of (removed_bit content) result ≡ content }
+    ensures back { value_of (removed_bit value) result ≡ value }
 {
-    match content {
-        Content::Value(value) => bits::to_twos(value, 32),
-        Content::Removed => 0,
-    }
+    value.map_or(0, |value| bits::to_twos(value, 32))
 }
 
 // Writes the record of a version from a bit place on.
@@ -45,8 +39,8 @@ fn write_record(bytes: &mut [u8], place: usize, version: Version)
 {
     bits::write_field(bytes, place, 16, u64::from(version.point));
     bits::write_field(bytes, place + 16, 32, u64::from(version.number));
-    bits::write_field(bytes, place + 48, 1, removed_bit(version.content));
-    bits::write_field(bytes, place + 49, 32, value_bits(version.content));
+    bits::write_field(bytes, place + 48, 1, removed_bit(version.value));
+    bits::write_field(bytes, place + 49, 32, value_bits(version.value));
 }
 
 // The version whose record begins at a bit place.
@@ -57,15 +51,15 @@ fn read_record(bytes: &[u8], place: usize) -> Version
 {
     let point = bits::read_field(bytes, place, 16) as u16;
     let number = bits::read_field(bytes, place + 16, 32) as u32;
-    let content = if bits::read_field(bytes, place + 48, 1) == 1 {
-        Content::Removed
+    let value = if bits::read_field(bytes, place + 48, 1) == 1 {
+        None
     } else {
-        Content::Value(bits::from_twos(bits::read_field(bytes, place + 49, 32), 32))
+        Some(bits::from_twos(bits::read_field(bytes, place + 49, 32), 32))
     };
     Version {
         point,
         number,
-        content,
+        value,
     }
 }
 
@@ -79,9 +73,7 @@ pub struct PackedFlash<'a> {
     limit: usize,
     ghost roomy: { limit ≡ room (length bytes.now) },
     ghost counted: { length (versions_in bytes.now used) ≡ used },
-    ghost within: { length (versions_in bytes.now used) ≤ limit },
-    ghost ordered: { sorted (versions_in bytes.now used) ≡ true },
-    ghost proper: { every numbered (versions_in bytes.now used) ≡ true },
+    ghost kept: { Kept (versions_in bytes.now used) limit },
     ghost exact: { Packs bytes.now (versions_in bytes.now used) },
 }
 
@@ -93,7 +85,7 @@ impl<'a> PackedFlash<'a> {
         ensures bytes { result.bytes.now ≡ bytes.old }
     {
         // No more bytes are counted than the largest part fills, so that the product stays small.
-        let limit = 8 * bytes.len().min(FLASH_MOST * RECORD_BITS / 8) / RECORD_BITS;
+        let limit = 8 * bytes.len().min(Flash::MOST * RECORD_BITS / 8) / RECORD_BITS;
         PackedFlash {
             bytes,
             used: 0,
@@ -113,12 +105,19 @@ impl<'a> PackedFlash<'a> {
 impl Rows for PackedFlash<'_> {
     ghost list = { λ p. versions_in p.bytes.now p.used };
 
+    ghost ordered = { λ p. p.kept.ordered };
+
     fn len(&self) -> usize {
         self.used
     }
 
-    fn row(&self, index: usize) -> Version {
-        read_record(self.bytes, RECORD_BITS * index)
+    #[tactic(auto, using(crate::proofs::Records::version_got, crate::proofs::Records::none_got))]
+    fn get(&self, index: usize) -> Option<Version> {
+        if index < self.used {
+            Some(read_record(self.bytes, RECORD_BITS * index))
+        } else {
+            None
+        }
     }
 }
 
@@ -128,6 +127,8 @@ impl Part for PackedFlash<'_> {
     ghost most = { λ p. p.limit };
 
     ghost sound = { λ _. Unit {0} };
+
+    ghost kept = { λ p _. p.kept };
 
     fn count(&self) -> usize {
         self.len()
@@ -141,19 +142,15 @@ impl Part for PackedFlash<'_> {
         first_in(self, place)
     }
 
-    fn newest(&self, point: u16, number: u32) -> Option<Version> {
-        newest_in(self, point, number)
-    }
-
     fn clear(&mut self) {
         self.used = 0;
     }
 }
 
-impl FlashPart for PackedFlash<'_> {
+impl TakingPart<Flash> for PackedFlash<'_> {
     // What every flash part promises, here without a premise, and `bits`: of the bytes it changes those of the new
     // record alone, and none where it does not take the version.
-    fn append(&mut self, version: Version) -> Result<(), NotTaken>
+    fn take(&mut self, version: Version) -> Result<(), NotTaken>
         ensures sound { Unit {0} → Unit {0} }
         ensures answer { Unit {0} → result ≡ flash_answer (versions_in self.old.bytes.now self.old.used) self.old.limit version }
         ensures list { Unit {0} → versions_in self.new.bytes.now self.new.used ≡ flash_after (versions_in self.old.bytes.now self.old.used) self.old.limit version }
@@ -162,7 +159,7 @@ impl FlashPart for PackedFlash<'_> {
     {
         let used = self.used;
         let limit = self.limit;
-        place_behind(self, limit, version)?;
+        admitted::<Flash, _>(self, limit, version)?;
         // The bytes leave the part for the write, and come back with the new record.
         let bytes = mem::take(&mut self.bytes);
         write_record(bytes, RECORD_BITS * used, version);

@@ -1,33 +1,36 @@
-// Versions that can be read by their index: the binary search, and the takings, that sorted table and packed flash share.
-ghost use Rattle.std.specs.Prelude.{◌≡◌, ◌<◌, true, List, [], ◌∷◌, ◌++◌, length, slice_index_or};
-ghost use Rattle.parts.specs.Indexed.{rank_of, Admits};
-ghost use Rattle.version.specs.Lists.{newest, first_from, Reaches, insert, memory_place, memory_answer, flash_place, flash_answer};
+// Versions in order that can be read by their index: the binary search, and the takings, that sorted table and packed flash share.
+ghost use Rattle.std.specs.Prelude.{◌≡◌, true, List, length};
+ghost use Rattle.std.specs.List.{slice_get};
+ghost use Rattle.parts.specs.Indexed.{rank_of, stands_before, in_front, Seated, Admits};
+ghost use Rattle.version.specs.Lists.{first_from, Reaches, behind, memory_place, flash_place, answer_of};
 ghost use Rattle.version.specs.Order.{place_of, sorted, Kept};
 ghost use Rattle.version.specs.declared.types.Version.{Version};
 
-use version::{NotTaken, Place, Version, of_point};
+use version::{Flash, Kind, Memory, NotTaken, Place, Version};
 
-pub(crate) trait Rows {
+pub trait Rows {
     ghost list: { Self → List Version };
 
     fn len(&self) -> usize
         ensures { result ≡ length (list self.now) };
 
-    fn row(&self, index: usize) -> Version
-        requires { index < length (list self.now) }
-        ensures { result ≡ slice_index_or (list self.now) index result };
+    // The version at an index, if there is one.
+    fn get(&self, index: usize) -> Option<Version>
+        ensures { result ≡ slice_get (list self.now) index };
+
+    ghost ordered: { (rows : Self) → sorted (list rows) ≡ true };
 }
 
 // How many versions stand before a place: each read halves what is left to search.
-pub(crate) fn rank<R: Rows>(rows: &R, place: Place) -> usize
-    requires { sorted (R.Rows.list rows.now) ≡ true }
+// The library searches slices, and the records of packed flash are none.
+fn rank<R: Rows>(rows: &R, place: Place) -> usize
     ensures { result ≡ rank_of (R.Rows.list rows.now) place }
 {
     let mut low = 0;
     let mut high = rows.len();
     while low < high {
         let middle = low + (high - low) / 2;
-        if rows.row(middle).place().is_before(place) {
+        if is_before(rows.get(middle), place) {
             low = middle + 1;
         } else {
             high = middle;
@@ -36,82 +39,86 @@ pub(crate) fn rank<R: Rows>(rows: &R, place: Place) -> usize
     low
 }
 
+// Whether a version is there, and stands before a place.
+fn is_before(found: Option<Version>, place: Place) -> bool
+    ensures { result ≡ stands_before found place }
+{
+    found.is_some_and(|version| version.place().is_before(place))
+}
+
+// Whether a version stands in front of another, if there is one.
+fn is_ahead(version: Version, other: Option<Version>) -> bool
+    ensures { result ≡ in_front version other }
+{
+    other.is_none_or(|other| version.place().is_before(other.place()))
+}
+
+// Whether a version stands behind another, if there is one.
+fn follows(version: Version, other: Option<Version>) -> bool
+    ensures { result ≡ behind other version }
+{
+    other.is_none_or(|other| other.place().is_before(version.place()))
+}
+
 // The first version at or after a place.
+#[tactic(auto, using(crate::proofs::Cuts::first_got, crate::proofs::Cuts::first_reaches))]
 pub(crate) fn first_in<R: Rows>(rows: &R, place: Place) -> Option<Version>
-    requires { sorted (R.Rows.list rows.now) ≡ true }
     ensures reaches { Reaches place result }
     ensures answer { result ≡ first_from (R.Rows.list rows.now) place }
 {
-    let at = rank(rows, place);
-    if at < rows.len() {
-        Some(rows.row(at))
-    } else {
-        None
+    rows.get(rank(rows, place))
+}
+
+// How a kind of part finds where a version goes in.
+pub trait Seats: Kind {
+    // The index at which it goes in, if it is in place.
+    fn seat<R: Rows>(rows: &R, version: Version) -> Option<usize>
+        ensures { Seated Self.Kind.place Self.Kind.put (R.Rows.list rows.now) version result };
+}
+
+impl Seats for Memory {
+    #[tactic(auto, using(crate::proofs::Seats::memory_seat))]
+    fn seat<R: Rows>(rows: &R, version: Version) -> Option<usize> {
+        let at = rank(rows, version.place());
+        is_free(rows, at, version).then_some(at)
     }
 }
 
-// The newest version of a point at or below a number.
-pub(crate) fn newest_in<R: Rows>(rows: &R, point: u16, number: u32) -> Option<Version>
-    requires { sorted (R.Rows.list rows.now) ≡ true }
-    ensures { result ≡ newest (R.Rows.list rows.now) point number }
-{
-    of_point(first_in(rows, Place { point, number }), point)
+impl Seats for Flash {
+    #[tactic(auto, using(crate::proofs::Seats::flash_seat))]
+    fn seat<R: Rows>(rows: &R, version: Version) -> Option<usize> {
+        is_behind(rows, version).then_some(rows.len())
+    }
 }
 
 // Whether a version is one, and its place, which has the rank `at`, is free.
 fn is_free<R: Rows>(rows: &R, at: usize, version: Version) -> bool
-    requires ordered { sorted (R.Rows.list rows.now) ≡ true }
-    requires ranked { at ≡ rank_of (R.Rows.list rows.now) (place_of version) }
+    requires { at ≡ rank_of (R.Rows.list rows.now) (place_of version) }
     ensures { result ≡ memory_place (R.Rows.list rows.now) version }
 {
     // What stands at the rank stands behind this place, or is there.
-    let held = at < rows.len() && !version.place().is_before(rows.row(at).place());
-    version.number != 0 && !held
+    version.number != 0 && is_ahead(version, rows.get(at))
 }
 
 // Whether a version is one, and stands behind the last, which is the only one read.
 fn is_behind<R: Rows>(rows: &R, version: Version) -> bool
     ensures { result ≡ flash_place (R.Rows.list rows.now) version }
 {
-    let count = rows.len();
-    let behind = count == 0 || rows.row(count - 1).place().is_before(version.place());
-    version.number != 0 && behind
+    version.number != 0 && follows(version, rows.get(rows.len().saturating_sub(1)))
 }
 
-// The index at which a version goes in at any free place, or why it does not.
-pub(crate) fn free_place<R: Rows>(
+// The index at which a version goes in, or why it does not.
+pub(crate) fn admitted<K: Seats, R: Rows>(
     rows: &R,
     limit: usize,
     version: Version,
 ) -> Result<usize, NotTaken>
     requires { Kept (R.Rows.list rows.now) limit }
-    ensures { Admits (R.Rows.list rows.now) (insert (R.Rows.list rows.now) version) limit version (memory_answer (R.Rows.list rows.now) limit version) result }
+    ensures { Admits (R.Rows.list rows.now) (K.Kind.put (R.Rows.list rows.now) version) limit version (answer_of K.Kind.place (R.Rows.list rows.now) limit version) result }
 {
-    let at = rank(rows, version.place());
-    if !is_free(rows, at, version) {
-        return Err(NotTaken::OutOfPlace);
-    }
+    let at = K::seat(rows, version).ok_or(NotTaken::OutOfPlace)?;
     if rows.len() == limit {
         return Err(NotTaken::Full);
     }
     Ok(at)
-}
-
-// The index at which a version goes in behind the last, or why it does not.
-pub(crate) fn place_behind<R: Rows>(
-    rows: &R,
-    limit: usize,
-    version: Version,
-) -> Result<usize, NotTaken>
-    requires { Kept (R.Rows.list rows.now) limit }
-    ensures { Admits (R.Rows.list rows.now) (R.Rows.list rows.now ++ version ∷ []) limit version (flash_answer (R.Rows.list rows.now) limit version) result }
-{
-    if !is_behind(rows, version) {
-        return Err(NotTaken::OutOfPlace);
-    }
-    let count = rows.len();
-    if count == limit {
-        return Err(NotTaken::Full);
-    }
-    Ok(count)
 }

@@ -1,17 +1,11 @@
 // A sorted table of versions in the caller's memory, as a memory part and as a flash part.
-ghost use Rattle.std.specs.Prelude.{◌≡◌, ◌+◌, ◌<◌, ◌≤◌, min, true, [], length, take};
+ghost use Rattle.std.specs.Prelude.{◌≡◌, ◌+◌, ◌<◌, ◌≤◌, min, [], length, take};
 ghost use Rattle.std.specs.List.{insert};
-ghost use Rattle.version.specs.Order.{sorted, every, numbered};
+ghost use Rattle.version.specs.Order.{Kept};
 
-use crate::rows::{Rows, first_in, free_place, newest_in, place_behind};
-use version::{FLASH_MOST, FlashPart, MEMORY_MOST, MemoryPart, NotTaken, Part, Place, Version};
-
-// What a table serves as: memory, or flash.
-#[derive(Clone, Copy)]
-pub struct Memory;
-
-#[derive(Clone, Copy)]
-pub struct Flash;
+use crate::rows::{Rows, Seats, admitted, first_in};
+use std::marker::PhantomData;
+use version::{Flash, Kind, Memory, NotTaken, Part, Place, TakingPart, Version};
 
 // Lent slots, of which the first `used` hold versions.
 #[derive(Drop)]
@@ -22,11 +16,10 @@ struct Slots<'a> {
 
 #[derive(Drop)]
 pub struct SortedTable<'a, K> {
-    kind: K,
+    kind: PhantomData<K>,
     rows: Slots<'a>,
     ghost within: { rows.used ≤ length rows.slots.now },
-    ghost ordered: { sorted (take rows.used rows.slots.now) ≡ true },
-    ghost proper: { every numbered (take rows.used rows.slots.now) ≡ true },
+    ghost kept: { Kept (take rows.used rows.slots.now) (length rows.slots.now) },
 }
 
 pub type MemoryTable<'a> = SortedTable<'a, Memory>;
@@ -54,56 +47,38 @@ fn insert_at(slots: &mut [Version], used: usize, at: usize, version: Version)
     requires within { at ≤ used }
     ensures { take (used + 1) slots.new ≡ insert (take used slots.old) at version }
 {
-    for to in (at..used).rev() {
-        slots[to + 1] = slots[to];
-    }
+    slots.copy_within(at..used, at + 1);
     slots[at] = version;
 }
 
-impl<'a> SortedTable<'a, Memory> {
-    // An empty memory part. Of more than 1,024 slots the first 1,024 serve.
-    pub fn memory(slots: &'a mut [Version]) -> MemoryTable<'a>
+impl<'a, K: Kind> SortedTable<'a, K> {
+    // An empty part. Of more slots than a part of its kind may hold the first ones serve.
+    pub fn new(slots: &'a mut [Version]) -> SortedTable<'a, K>
         ensures empty { take result.rows.used result.rows.slots.now ≡ [] }
-        ensures limit { length result.rows.slots.now ≡ min (length slots.old) 1024 }
+        ensures limit { length result.rows.slots.now ≡ min (length slots.old) K.Kind.MOST }
     {
-        over(Memory, slots, MEMORY_MOST)
-    }
-}
-
-impl<'a> SortedTable<'a, Flash> {
-    // An empty flash part. Of more than 4,096 slots the first 4,096 serve.
-    pub fn flash(slots: &'a mut [Version]) -> FlashTable<'a>
-        ensures empty { take result.rows.used result.rows.slots.now ≡ [] }
-        ensures limit { length result.rows.slots.now ≡ min (length slots.old) 4096 }
-    {
-        over(Flash, slots, FLASH_MOST)
-    }
-}
-
-// An empty table over the first slots, as many as may serve.
-fn over<'a, K>(kind: K, slots: &'a mut [Version], most: usize) -> SortedTable<'a, K>
-    ensures empty { take result.rows.used result.rows.slots.now ≡ [] }
-    ensures limit { length result.rows.slots.now ≡ min (length slots.old) most }
-{
-    let limit = slots.len().min(most);
-    SortedTable {
-        kind,
-        rows: Slots {
-            slots: &mut slots[0..limit],
-            used: 0,
-        },
+        let limit = slots.len().min(K::MOST);
+        SortedTable {
+            kind: PhantomData,
+            rows: Slots {
+                slots: &mut slots[0..limit],
+                used: 0,
+            },
+        }
     }
 }
 
 impl<K> Rows for SortedTable<'_, K> {
     ghost list = { λ t. take t.rows.used t.rows.slots.now };
 
+    ghost ordered = { λ t. t.kept.ordered };
+
     fn len(&self) -> usize {
         self.rows.used
     }
 
-    fn row(&self, index: usize) -> Version {
-        self.rows.slots[index]
+    fn get(&self, index: usize) -> Option<Version> {
+        self.rows.slots[..self.rows.used].get(index).copied()
     }
 }
 
@@ -113,6 +88,8 @@ impl<K> Part for SortedTable<'_, K> {
     ghost most = { λ t. length t.rows.slots.now };
 
     ghost sound = { λ _. Unit {0} };
+
+    ghost kept = { λ t _. t.kept };
 
     fn count(&self) -> usize {
         self.len()
@@ -126,26 +103,14 @@ impl<K> Part for SortedTable<'_, K> {
         first_in(self, place)
     }
 
-    fn newest(&self, point: u16, number: u32) -> Option<Version> {
-        newest_in(self, point, number)
-    }
-
     fn clear(&mut self) {
         self.rows.used = 0;
     }
 }
 
-impl MemoryPart for SortedTable<'_, Memory> {
+impl<K: Seats> TakingPart<K> for SortedTable<'_, K> {
     fn take(&mut self, version: Version) -> Result<(), NotTaken> {
-        let at = free_place(self, self.limit(), version)?;
-        self.rows.insert(at, version);
-        Ok(())
-    }
-}
-
-impl FlashPart for SortedTable<'_, Flash> {
-    fn append(&mut self, version: Version) -> Result<(), NotTaken> {
-        let at = place_behind(self, self.limit(), version)?;
+        let at = admitted::<K, _>(self, self.limit(), version)?;
         self.rows.insert(at, version);
         Ok(())
     }

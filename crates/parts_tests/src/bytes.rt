@@ -2,7 +2,7 @@
 // in two's complement: 81 in all. The second begins at bit 1 of byte 10, and the third at bit 2 of byte 20. Bits behind the records stay as they were.
 use crate::calls::Answer::*;
 use crate::calls::Call::*;
-use crate::calls::{Step, in_flash, many, put};
+use crate::calls::{Step, runs};
 use parts::PackedFlash;
 use std::alloc::Global;
 use std::process::Abort;
@@ -154,7 +154,7 @@ static MORE_RECORDS: [(u8, &[Step], &str); 7] = [
 fn spelled(heap: Global, text: &str) -> Result<Vec<u8>, Fail> {
     let mut bytes = Vec::new(heap);
     for word in text.split(' ') {
-        put(&mut bytes, u8::from_str_radix(word, 16)?)?;
+        bytes.push(u8::from_str_radix(word, 16)?)?;
     }
     Ok(bytes)
 }
@@ -162,9 +162,9 @@ fn spelled(heap: Global, text: &str) -> Result<Vec<u8>, Fail> {
 // Makes the calls on a part in as many bytes as the text spells. Then they are those bytes, to the part and to its lender.
 fn packs(rt: &impl Abort, heap: Global, fill: u8, script: &[Step], text: &str) -> Result<(), Fail> {
     let expected = spelled(heap, text)?;
-    let mut bytes = many(heap, fill, expected.len())?;
+    let mut bytes = vec![in heap; fill; expected.len()]?;
     let mut part = PackedFlash::new(bytes.as_mut_slice());
-    in_flash(rt, text, &mut part, &[script]);
+    runs(rt, text, &mut part, &[script]);
     assert_eq!(rt; part.bytes(), expected.as_slice(), "{text}");
     assert_eq!(rt; bytes, expected, "{text}");
     Ok(())

@@ -1,6 +1,6 @@
 // A layer over any part that counts the questions that reach it.
 use std::cell::Cell;
-use version::{FlashPart, MemoryPart, NotTaken, Part, Place, Version};
+use version::{Kind, NotTaken, Part, Place, TakingPart, Version};
 
 #[derive(Drop)]
 pub struct Counting<'a, P> {
@@ -22,6 +22,8 @@ impl<P: Part> Part for Counting<'_, P> {
 
     ghost sound = { λ c. P.Part.sound c.below };
 
+    ghost kept = { λ c. P.Part.kept c.below };
+
     fn count(&self) -> usize {
         self.note();
         self.below.count()
@@ -37,9 +39,9 @@ impl<P: Part> Part for Counting<'_, P> {
         self.below.first_from(place)
     }
 
-    fn newest(&self, point: u16, number: u32) -> Option<Version> {
+    fn newest(&self, place: Place) -> Option<Version> {
         self.note();
-        self.below.newest(point, number)
+        self.below.newest(place)
     }
 
     fn clear(&mut self) {
@@ -47,14 +49,8 @@ impl<P: Part> Part for Counting<'_, P> {
     }
 }
 
-impl<P: MemoryPart> MemoryPart for Counting<'_, P> {
+impl<K: Kind, P: TakingPart<K>> TakingPart<K> for Counting<'_, P> {
     fn take(&mut self, version: Version) -> Result<(), NotTaken> {
         self.below.take(version)
-    }
-}
-
-impl<P: FlashPart> FlashPart for Counting<'_, P> {
-    fn append(&mut self, version: Version) -> Result<(), NotTaken> {
-        self.below.append(version)
     }
 }

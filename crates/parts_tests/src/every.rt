@@ -1,8 +1,8 @@
 // Every part with room for 8 versions, alone and under a fence, given the same scripts.
-use crate::calls::{BLANK, Step, in_flash, in_memory};
-use parts::{Fence, LinkedList, Node, PackedFlash, SortedTable};
+use crate::calls::{BLANK, Step, runs};
+use parts::{Fence, FlashTable, LinkedList, MemoryTable, Node, PackedFlash};
 use std::process::Abort;
-use version::{FlashPart, MemoryPart};
+use version::{Kind, TakingPart};
 
 // A node whose link leads nowhere.
 pub const LOOSE: Node = Node {
@@ -11,33 +11,23 @@ pub const LOOSE: Node = Node {
 };
 
 // Gives the scripts to a part, and then to a fence over it, which empties it first. `cases` names the two.
-fn memory_and_fence<P: MemoryPart + Drop>(
+fn part_and_fence<K: Kind, P: TakingPart<K> + Drop>(
     rt: &impl Abort,
     cases: [&str; 2],
     mut part: P,
     scripts: &[&[Step]],
 ) {
-    in_memory(rt, cases[0], &mut part, scripts);
-    in_memory(rt, cases[1], &mut Fence::new(part), scripts);
-}
-
-fn flash_and_fence<P: FlashPart + Drop>(
-    rt: &impl Abort,
-    cases: [&str; 2],
-    mut part: P,
-    scripts: &[&[Step]],
-) {
-    in_flash(rt, cases[0], &mut part, scripts);
-    in_flash(rt, cases[1], &mut Fence::new(part), scripts);
+    runs(rt, cases[0], &mut part, scripts);
+    runs(rt, cases[1], &mut Fence::new(part), scripts);
 }
 
 pub fn every_memory_part(rt: &impl Abort, scripts: &[&[Step]]) {
     let mut slots = [BLANK; 8];
     let mut nodes = [LOOSE; 8];
     let cases = ["memory table", "memory table under a fence"];
-    memory_and_fence(rt, cases, SortedTable::memory(&mut slots), scripts);
+    part_and_fence(rt, cases, MemoryTable::new(&mut slots), scripts);
     let cases = ["linked list", "linked list under a fence"];
-    memory_and_fence(rt, cases, LinkedList::new(&mut nodes), scripts);
+    part_and_fence(rt, cases, LinkedList::new(&mut nodes), scripts);
 }
 
 pub fn every_flash_part(rt: &impl Abort, scripts: &[&[Step]]) {
@@ -45,9 +35,9 @@ pub fn every_flash_part(rt: &impl Abort, scripts: &[&[Step]]) {
     // 8 times 81 bits
     let mut bytes = [0xA5u8; 81];
     let cases = ["flash table", "flash table under a fence"];
-    flash_and_fence(rt, cases, SortedTable::flash(&mut slots), scripts);
+    part_and_fence(rt, cases, FlashTable::new(&mut slots), scripts);
     let cases = ["packed flash", "packed flash under a fence"];
-    flash_and_fence(rt, cases, PackedFlash::new(&mut bytes), scripts);
+    part_and_fence(rt, cases, PackedFlash::new(&mut bytes), scripts);
 }
 
 pub fn every_part(rt: &impl Abort, scripts: &[&[Step]]) {

@@ -1,13 +1,13 @@
 // A fence does not ask the part below it what the least and the greatest point held decide.
 use crate::calls::Answer::*;
 use crate::calls::Call::*;
-use crate::calls::{BLANK, Called, InFlash, InMemory, Step};
+use crate::calls::{BLANK, Step, answer_to};
 use crate::counting::Counting;
 use crate::every::LOOSE;
-use parts::{Fence, LinkedList, PackedFlash, SortedTable};
+use parts::{Fence, FlashTable, LinkedList, MemoryTable, PackedFlash};
 use std::cell::Cell;
 use std::process::Abort;
-use version::{FlashPart, MemoryPart};
+use version::{Kind, TakingPart};
 
 const TOP: u32 = 4_294_967_295;
 
@@ -89,36 +89,26 @@ static RISING: [Counted; 61] = [
 ];
 
 // Makes the calls on a fence. Each is answered as the script says, and asks below as often. `case` names the part below.
-fn counts<C: Called>(
+fn counts_fence<K: Kind, P: TakingPart<K>>(
     rt: &impl Abort,
     case: &str,
-    fence: &mut C,
+    fence: &mut P,
     asked: &Cell<u32>,
     script: &[Counted],
 ) {
-    for (index, ((call, answer), questions)) in script.iter().enumerate() {
+    for (index, ((call, expected), questions)) in script.iter().enumerate() {
         asked.set(0);
-        let said = fence.answer(*call);
+        let said = answer_to(fence, *call);
         assert_eq!(rt;
             (said, asked.get()),
-            (*answer, *questions),
+            (*expected, *questions),
             "{case}: call {index}"
         );
     }
 }
 
-fn fence_in_memory<P: MemoryPart + Drop>(
-    rt: &impl Abort,
-    case: &str,
-    below: P,
-    asked: &Cell<u32>,
-    script: &[Counted],
-) {
-    let mut fence = Fence::new(below);
-    counts(rt, case, &mut InMemory(&mut fence), asked, script);
-}
-
-fn counts_in_memory<P: MemoryPart + Drop>(
+// The same on a fence that is made over a part.
+fn counts<K: Kind, P: TakingPart<K> + Drop>(
     rt: &impl Abort,
     case: &str,
     below: P,
@@ -129,27 +119,7 @@ fn counts_in_memory<P: MemoryPart + Drop>(
         below,
         asked: &asked,
     };
-    fence_in_memory(rt, case, below, &asked, script);
-}
-
-fn fence_in_flash<P: FlashPart + Drop>(
-    rt: &impl Abort,
-    case: &str,
-    below: P,
-    asked: &Cell<u32>,
-    script: &[Counted],
-) {
-    let mut fence = Fence::new(below);
-    counts(rt, case, &mut InFlash(&mut fence), asked, script);
-}
-
-fn counts_in_flash<P: FlashPart + Drop>(rt: &impl Abort, case: &str, below: P, script: &[Counted]) {
-    let asked = Cell::new(0);
-    let below = Counting {
-        below,
-        asked: &asked,
-    };
-    fence_in_flash(rt, case, below, &asked, script);
+    counts_fence(rt, case, &mut Fence::new(below), &asked, script);
 }
 
 #[test]
@@ -158,15 +128,10 @@ fn questions_below_a_fence(rt: HostRuntime) {
     let mut nodes = [LOOSE; 4];
     // 4 times 81 bits are 324
     let mut bytes = [0u8; 41];
-    counts_in_memory(
-        &rt,
-        "memory table",
-        SortedTable::memory(&mut slots),
-        &RISING,
-    );
-    counts_in_memory(&rt, "linked list", LinkedList::new(&mut nodes), &RISING);
-    counts_in_flash(&rt, "flash table", SortedTable::flash(&mut slots), &RISING);
-    counts_in_flash(&rt, "packed flash", PackedFlash::new(&mut bytes), &RISING);
+    counts(&rt, "memory table", MemoryTable::new(&mut slots), &RISING);
+    counts(&rt, "linked list", LinkedList::new(&mut nodes), &RISING);
+    counts(&rt, "flash table", FlashTable::new(&mut slots), &RISING);
+    counts(&rt, "packed flash", PackedFlash::new(&mut bytes), &RISING);
 }
 
 // In memory a fence widens to both sides.
@@ -193,11 +158,11 @@ static BOTH_SIDES: [Counted; 15] = [
 fn fence_that_widens_to_both_sides(rt: HostRuntime) {
     let mut slots = [BLANK; 4];
     let mut nodes = [LOOSE; 4];
-    counts_in_memory(
+    counts(
         &rt,
         "memory table",
-        SortedTable::memory(&mut slots),
+        MemoryTable::new(&mut slots),
         &BOTH_SIDES,
     );
-    counts_in_memory(&rt, "linked list", LinkedList::new(&mut nodes), &BOTH_SIDES);
+    counts(&rt, "linked list", LinkedList::new(&mut nodes), &BOTH_SIDES);
 }

@@ -1,12 +1,14 @@
 // Parts of every size: filled to the limit and no further, and every version found again.
+ghost use Rattle.std.specs.Iterator.{IsFinite};
+
 use crate::calls::Answer::*;
 use crate::calls::Call::*;
-use crate::calls::{BLANK, Called, InFlash, InMemory, Step, many, runs};
+use crate::calls::{BLANK, Step, answer_to, runs};
 use crate::every::LOOSE;
-use parts::{LinkedList, PackedFlash, SortedTable};
+use parts::{FlashTable, LinkedList, MemoryTable, PackedFlash};
 use std::process::Abort;
 use std::test::Fail;
-use version::{FlashPart, MemoryPart};
+use version::{Kind, Memory, TakingPart};
 
 static EMPTIED: [Step; 4] = [
     (Clear, Done),
@@ -27,29 +29,38 @@ fn full(limit: u16) -> [Step; 6] {
     ]
 }
 
-// An emptied part takes the points below its limit, rising or falling, and no more, and finds them all. `case` names it where it does not.
-fn fills<C: Called>(rt: &impl Abort, case: &str, part: &mut C, limit: u16, falling: bool) {
+// An emptied part takes the points, and no more than are below its limit, and finds them all. `case` names it where it does not.
+fn fills<K: Kind, P: TakingPart<K>, I: Iterator<Item = u16> + Drop>(
+    rt: &impl Abort,
+    case: &str,
+    part: &mut P,
+    limit: u16,
+    points: I,
+)
+    requires { I.can_next points × IsFinite (I.remaining points) }
+{
     runs(rt, case, part, &[&EMPTIED]);
-    for index in 0..limit {
-        let point = if falling { limit - 1 - index } else { index };
+    for point in points {
         let call = Take(point, 3, Some(-i32::from(point)));
-        assert_eq!(rt; part.answer(call), Done, "{case}");
+        assert_eq!(rt; answer_to(part, call), Done, "{case}");
     }
     runs(rt, case, part, &[&full(limit)]);
     for point in 0..limit {
         let found = Found(point, 3, Some(-i32::from(point)));
-        assert_eq!(rt; part.answer(Newest(point, 3)), found, "{case}");
-        assert_eq!(rt; part.answer(From(point, 4)), found, "{case}");
+        assert_eq!(rt; answer_to(part, Newest(point, 3)), found, "{case}");
+        assert_eq!(rt; answer_to(part, From(point, 4)), found, "{case}");
     }
 }
 
-fn fills_memory<P: MemoryPart>(rt: &impl Abort, cases: [&str; 2], part: &mut P, limit: u16) {
-    fills(rt, cases[0], &mut InMemory(part), limit, false);
-    fills(rt, cases[1], &mut InMemory(part), limit, true);
-}
-
-fn fills_flash<P: FlashPart>(rt: &impl Abort, case: &str, part: &mut P, limit: u16) {
-    fills(rt, case, &mut InFlash(part), limit, false);
+// A memory part takes them rising and falling.
+fn fills_memory<P: TakingPart<Memory>>(
+    rt: &impl Abort,
+    cases: [&str; 2],
+    part: &mut P,
+    limit: u16,
+) {
+    fills(rt, cases[0], part, limit, 0..limit);
+    fills(rt, cases[1], part, limit, (0..limit).rev());
 }
 
 // Slots or nodes, and the limit that they give.
@@ -58,15 +69,15 @@ static MEMORY_SIZES: [(usize, u16); 4] = [(0, 0), (1, 1), (1024, 1024), (1030, 1
 #[test]
 fn memory_parts_to_their_limits(rt: HostRuntime) -> Result<(), Fail> {
     for (size, limit) in &MEMORY_SIZES {
-        let mut slots = many(rt.alloc(), BLANK, *size)?;
+        let mut slots = vec![in rt.alloc(); BLANK; *size]?;
         let cases = ["memory table, rising", "memory table, falling"];
         fills_memory(
             &rt,
             cases,
-            &mut SortedTable::memory(slots.as_mut_slice()),
+            &mut MemoryTable::new(slots.as_mut_slice()),
             *limit,
         );
-        let mut nodes = many(rt.alloc(), LOOSE, *size)?;
+        let mut nodes = vec![in rt.alloc(); LOOSE; *size]?;
         let cases = ["linked list, rising", "linked list, falling"];
         fills_memory(
             &rt,
@@ -84,12 +95,13 @@ static TABLE_SIZES: [(usize, u16); 3] = [(0, 0), (1, 1), (4100, 4096)];
 #[test]
 fn flash_tables_to_their_limits(rt: HostRuntime) -> Result<(), Fail> {
     for (size, limit) in &TABLE_SIZES {
-        let mut slots = many(rt.alloc(), BLANK, *size)?;
-        fills_flash(
+        let mut slots = vec![in rt.alloc(); BLANK; *size]?;
+        fills(
             &rt,
             "flash table",
-            &mut SortedTable::flash(slots.as_mut_slice()),
+            &mut FlashTable::new(slots.as_mut_slice()),
             *limit,
+            0..*limit,
         );
     }
     Ok(())
@@ -101,12 +113,13 @@ static PACKED_SIZES: [(usize, u16); 5] = [(0, 0), (10, 0), (11, 1), (41_472, 409
 #[test]
 fn packed_flash_to_its_limits(rt: HostRuntime) -> Result<(), Fail> {
     for (size, limit) in &PACKED_SIZES {
-        let mut bytes = many(rt.alloc(), 0xFFu8, *size)?;
-        fills_flash(
+        let mut bytes = vec![in rt.alloc(); 0xFFu8; *size]?;
+        fills(
             &rt,
             "packed flash",
             &mut PackedFlash::new(bytes.as_mut_slice()),
             *limit,
+            0..*limit,
         );
     }
     Ok(())

@@ -1,5 +1,5 @@
 // The questions answered by going through all versions, in whatever order they came, and compared with every part.
-use crate::calls::{Answer, Call, Step, put};
+use crate::calls::{Answer, Call, Step};
 use crate::every::{every_memory_part, every_part};
 use std::alloc::Global;
 use std::test::Fail;
@@ -64,10 +64,7 @@ fn plain_answer(versions: &[Said], question: Call) -> Answer {
 fn all_questions(heap: Global, versions: &[Said]) -> Result<Vec<Step>, Fail> {
     let mut script = Vec::new(heap);
     for said in versions {
-        put(
-            &mut script,
-            (Call::Take(said.0, said.1, said.2), Answer::Done),
-        )?;
+        script.push((Call::Take(said.0, said.1, said.2), Answer::Done))?;
     }
     for point in 0..9u16 {
         for number in 0..9u32 {
@@ -76,7 +73,7 @@ fn all_questions(heap: Global, versions: &[Said]) -> Result<Vec<Step>, Fail> {
                 Call::From(point, number),
                 Call::Look(point, number),
             ] {
-                put(&mut script, (question, plain_answer(versions, question)))?;
+                script.push((question, plain_answer(versions, question)))?;
             }
         }
     }

@@ -10,10 +10,7 @@ use std::test::Fail;
 
 // One item more at the end of a list.
 pub fn put<T: Drop>(list: &mut Vec<T>, item: T) -> Result<(), Fail> {
-    match list.push(item) {
-        Ok(()) => Ok(()),
-        Err(_) => Err(Fail::new("no memory")),
-    }
+    list.push(item).map_err(|_| Fail::new("no memory"))
 }
 
 // The bytes that a text spells: two digits each, with blanks between them.
@@ -43,10 +40,7 @@ fn readings_of(heap: Global, pairs: &[(u16, i32)]) -> Result<Vec<Reading>, Fail>
 // The picture of some readings.
 pub fn encoded(heap: Global, handle: u32, pairs: &[(u16, i32)]) -> Result<Vec<u8>, Fail> {
     let readings = readings_of(heap, pairs)?;
-    match encode(heap, handle, readings.as_slice()) {
-        Ok(bytes) => Ok(bytes),
-        Err(_) => Err(Fail::new("not encoded")),
-    }
+    encode(heap, handle, readings.as_slice()).map_err(|_| Fail::new("not encoded"))
 }
 
 // `encode` stops at the reading that has this index, with the refusal that has this number.
@@ -58,21 +52,16 @@ pub fn stops(
     number: u8,
 ) -> Result<(), Fail> {
     let readings = readings_of(heap, pairs)?;
-    match encode(heap, 0, readings.as_slice()) {
-        Err(NotEncoded::Stopped(e)) => {
-            assert_eq!(rt; (e.index, e.refusal.number()), (index, number));
-            Ok(())
-        },
-        _ => Err(Fail::new("encoded, or no memory")),
-    }
+    let Err(NotEncoded::Stopped(e)) = encode(heap, 0, readings.as_slice()) else {
+        return Err(Fail::new("encoded, or no memory"));
+    };
+    assert_eq!(rt; (e.index, e.refusal.number()), (index, number));
+    Ok(())
 }
 
 // The number and the bit place of a refusal, if the answer is one.
 fn refusal_of<T: Drop>(answer: Result<T, Refused>) -> Option<(u8, usize)> {
-    match answer {
-        Ok(_) => None,
-        Err(e) => Some((e.refusal.number(), e.place)),
-    }
+    answer.err().map(|e| (e.refusal.number(), e.place))
 }
 
 // The refusal that a reader comes to, if it does not end with *none*.
@@ -153,14 +142,10 @@ pub fn is_refused(
         i64::try_from(place).ok(),
         "{case}"
     );
-    match read(heap, bytes) {
-        Err(NotRead::Refused(e)) => assert_eq!(rt;
-            Some((e.refusal.number(), e.place)),
-            refusal,
-            "{case}"
-        ),
-        _ => return Err(Fail::new("read, or no memory")),
-    }
+    let Err(NotRead::Refused(e)) = read(heap, bytes) else {
+        return Err(Fail::new("read, or no memory"));
+    };
+    assert_eq!(rt; Some((e.refusal.number(), e.place)), refusal, "{case}");
     let mut reader = Reader::new(bytes);
     assert_eq!(rt; end_of(&mut reader), refusal, "{case}");
     assert_eq!(rt; end_of(&mut reader), refusal, "{case}");

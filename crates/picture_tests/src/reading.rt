@@ -1,7 +1,7 @@
 // Bytes made by hand. Behind 4 bytes of handle and 2 of count, the width has the high 6 bits of a byte: 04 is width 1, 08 width 2, 24 width 9,
 // 80 width 32, 84 width 33, FC width 63. The low 2 bits of that byte are 54 and 55: the first two of the first record, or else padding.
 use crate::common::{is_picture, is_refused, spelled};
-use picture::{Reader, ask, dingaruho_ask};
+use picture::{Reader, Reading, ask, check, dingaruho_ask, encode, read};
 use std::test::Fail;
 
 // Bytes, and the number and the bit place of their refusal.
@@ -58,6 +58,33 @@ fn bytes_that_are_refused(rt: HostRuntime) -> Result<(), Fail> {
         let bytes = spelled(rt.alloc(), text)?;
         is_refused(&rt, rt.alloc(), text, bytes.as_slice(), *number, *place)?;
     }
+    Ok(())
+}
+
+// A refusal is printed with its number and its place, by the call that checks and by those that need memory.
+#[test]
+fn refusals_that_are_printed(rt: HostRuntime) -> Result<(), Fail> {
+    let heap = rt.alloc();
+    let bytes = [0, 0, 0, 0, 0x10, 0x01, 0x04];
+    let Err(refused) = check(&bytes) else {
+        return Err(Fail::new("a count of 4,097 is accepted"));
+    };
+    let text = format!(in heap; "{refused}")?;
+    assert_eq!(rt; text.as_str(), "refused 18 at bit 32");
+    let Err(not_read) = read(heap, &bytes) else {
+        return Err(Fail::new("a count of 4,097 is read"));
+    };
+    let text = format!(in heap; "{not_read}")?;
+    assert_eq!(rt; text.as_str(), "refused 18 at bit 32");
+    let twice = [
+        Reading { point: 5, value: 0 },
+        Reading { point: 5, value: 0 },
+    ];
+    let Err(not_encoded) = encode(heap, 0, &twice) else {
+        return Err(Fail::new("a point is encoded twice"));
+    };
+    let text = format!(in heap; "{not_encoded}")?;
+    assert_eq!(rt; text.as_str(), "refused 11 at reading 1");
     Ok(())
 }
 

@@ -36,28 +36,28 @@ fn size_of(stage: &Stage) -> Option<usize> {
 fn measured(state: Measuring, reading: Reading) -> (Stage, Option<u8>) {
     match state.measure(reading) {
         Ok(next) => (Stage::Measured(next), None),
-        Err(back) => (Stage::Measured(back.0), Some(back.1.number())),
+        Err(back) => (Stage::Measured(back.state), Some(back.refusal.number())),
     }
 }
 
 fn turned(state: Measuring, bytes: &mut [u8]) -> (Stage, Option<u8>) {
     match state.into_writing(bytes) {
         Ok(next) => (Stage::Written(next), None),
-        Err(back) => (Stage::Measured(back.0), Some(back.1.number())),
+        Err(back) => (Stage::Measured(back.state), Some(back.refusal.number())),
     }
 }
 
 fn added(state: Writing, bytes: &mut [u8], reading: Reading) -> (Stage, Option<u8>) {
     match state.add(bytes, reading) {
         Ok(next) => (Stage::Written(next), None),
-        Err(back) => (Stage::Written(back.0), Some(back.1.number())),
+        Err(back) => (Stage::Written(back.state), Some(back.refusal.number())),
     }
 }
 
 fn sealed(state: Writing, bytes: &[u8]) -> (Stage, Option<u8>) {
     match state.seal(bytes) {
         Ok(next) => (Stage::Done(next), None),
-        Err(back) => (Stage::Written(back.0), Some(back.1.number())),
+        Err(back) => (Stage::Written(back.state), Some(back.refusal.number())),
     }
 }
 

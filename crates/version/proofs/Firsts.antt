@@ -4,78 +4,74 @@ use mathlib.Core.List.Memᴰ
 use mathlib.Core.List.{Memᴰ}
 use Rattle.std.proofs.lemmas.Bool.{cond_both, cond-true, cond-false, cases_Bool, both_ways, false≢true}
 use Rattle.std.proofs.lemmas.Bool.Decides.{nat_tests}
-use Rattle.version.specs.Lists.{first, newest, first_from, only, Reaches, look}
+use Rattle.std.specs.List.{find}
+use Rattle.std.proofs.lemmas.Option.{none-some, same_Some}
+use Rattle.version.specs.Lists.{newest, first_from, only, Reaches, look}
 use Rattle.version.specs.Order.{ahead, place_of, before}
 use Rattle.version.proofs.Sorts.{◌∈◌, Sorted}
 use Rattle.version.specs.declared.types.Place.{Place}
 use Rattle.version.specs.declared.types.Version.{Version}
 
-pub some_same : {A : Type 0} (a b : A) → ◌≡◌ {A = Option A} (Some a) (Some b) → a ≡ b
-some_same a b e = cc
-
-pub some_none : {A : Type 0} (a : A) → ◌≡◌ {A = Option A} (Some a) None → ⊥
-some_none a e = let z : ◌≡◌ {A = ℕ} 0 1 = cc in omega arith
-
 -- ---- what the first tells of the list
 
-pub first_some : (f : Version → Bool) (vs : List Version) (v : Version) → first f vs ≡ Some v → (v ∈ vs) × (f v ≡ true)
-first_some f [] v e = absurd (some_none v (sym e))
+pub first_some : (f : Version → Bool) (vs : List Version) (v : Version) → find f vs ≡ Some v → (v ∈ vs) × (f v ≡ true)
+first_some f [] v e = absurd (none-some v e)
 first_some f (w ∷ ws) v e = ⊎_elim
-    (λ t. let q : w ≡ v = some_same w v (sym (cond-true (f w) (Some w) (first f ws) t) ∙ e) in (Memᴰ.head (sym q), subst (λ x. f x ≡ true) q t))
-    (λ t. let r = first_some f ws v (sym (cond-false (f w) (Some w) (first f ws) t) ∙ e) in (Memᴰ.tail r.0, r.1))
+    (λ t. let q : w ≡ v = same_Some w v (sym (cond-true (f w) (Some w) (find f ws) t) ∙ e) in (Memᴰ.head (sym q), subst (λ x. f x ≡ true) q t))
+    (λ t. let r = first_some f ws v (sym (cond-false (f w) (Some w) (find f ws) t) ∙ e) in (Memᴰ.tail r.0, r.1))
     (cases_Bool (f w))
 
-pub first_none : (f : Version → Bool) (vs : List Version) → first f vs ≡ None → (w : Version) → w ∈ vs → f w ≡ false
+pub first_none : (f : Version → Bool) (vs : List Version) → find f vs ≡ None → (w : Version) → w ∈ vs → f w ≡ false
 first_none f [] e w m = absurd (Memᴰ.not-nil m)
 first_none f (v ∷ vs) e w m = ⊎_elim
-    (λ t. absurd (some_none v (sym (cond-true (f v) (Some v) (first f vs) t) ∙ e)))
-    (λ t. ⊎_elim (λ (q : w ≡ v). subst (λ x. f x ≡ false) (sym q) t) (λ n. first_none f vs (sym (cond-false (f v) (Some v) (first f vs) t) ∙ e) w n) (Memᴰ.cases_cons m))
+    (λ t. absurd (none-some v (sym e ∙ cond-true (f v) (Some v) (find f vs) t)))
+    (λ t. ⊎_elim (λ (q : w ≡ v). subst (λ x. f x ≡ false) (sym q) t) (λ n. first_none f vs (sym (cond-false (f v) (Some v) (find f vs) t) ∙ e) w n) (Memᴰ.cases_cons m))
     (cases_Bool (f v))
 
 -- in version order, what passes is the first or stands behind it
-pub first_least : (f : Version → Bool) (vs : List Version) (v : Version) → Sorted vs → first f vs ≡ Some v → (w : Version) → w ∈ vs → f w ≡ true → (w ≡ v) ⊎ (before v w ≡ true)
+pub first_least : (f : Version → Bool) (vs : List Version) (v : Version) → Sorted vs → find f vs ≡ Some v → (w : Version) → w ∈ vs → f w ≡ true → (w ≡ v) ⊎ (before v w ≡ true)
 first_least f [] v s e w m t = absurd (Memᴰ.not-nil m)
 first_least f (x ∷ xs) v s e w m t = ⊎_elim
-    (λ p. let q : x ≡ v = some_same x v (sym (cond-true (f x) (Some x) (first f xs) p) ∙ e) in
+    (λ p. let q : x ≡ v = same_Some x v (sym (cond-true (f x) (Some x) (find f xs) p) ∙ e) in
     ⊎_elim (λ (z : w ≡ x). inl (z ∙ q)) (λ n. inr (subst (λ y. before y w ≡ true) q (s.0 w n))) (Memᴰ.cases_cons m))
     (λ p. ⊎_elim (λ (z : w ≡ x). absurd (false≢true (sym (subst (λ y. f y ≡ false) (sym z) p) ∙ t)))
-    (λ n. first_least f xs v s.1 (sym (cond-false (f x) (Some x) (first f xs) p) ∙ e) w n t) (Memᴰ.cases_cons m))
+    (λ n. first_least f xs v s.1 (sym (cond-false (f x) (Some x) (find f xs) p) ∙ e) w n t) (Memᴰ.cases_cons m))
     (cases_Bool (f x))
 
 -- ---- one test for another
 
-pub first_same : (f g : Version → Bool) (vs : List Version) → ((w : Version) → w ∈ vs → f w ≡ g w) → first f vs ≡ first g vs
+pub first_same : (f g : Version → Bool) (vs : List Version) → ((w : Version) → w ∈ vs → f w ≡ g w) → find f vs ≡ find g vs
 first_same f g [] h = refl
 first_same f g (v ∷ vs) h =
     let here = h v (Memᴰ.head refl) in
     let rest = first_same f g vs (λ w m. h w (Memᴰ.tail m)) in
-    ap (λ b. cond b (Some v) (first f vs)) here ∙ ap (cond (g v) (Some v)) rest
+    ap (λ b. cond b (Some v) (find f vs)) here ∙ ap (cond (g v) (Some v)) rest
 
-first_of_none : (g : Version → Bool) (vs : List Version) → ((w : Version) → w ∈ vs → g w ≡ false) → first g vs ≡ None
+first_of_none : (g : Version → Bool) (vs : List Version) → ((w : Version) → w ∈ vs → g w ≡ false) → find g vs ≡ None
 first_of_none g [] h = refl
-first_of_none g (v ∷ vs) h = cond-false (g v) (Some v) (first g vs) (h v (Memᴰ.head refl)) ∙ first_of_none g vs (λ w m. h w (Memᴰ.tail m))
+first_of_none g (v ∷ vs) h = cond-false (g v) (Some v) (find g vs) (h v (Memᴰ.head refl)) ∙ first_of_none g vs (λ w m. h w (Memᴰ.tail m))
 
 -- g passes only what f passes
 module _ (f g : Version → Bool) (narrow : (w : Version) → g w ≡ true → f w ≡ true) where
   fails : (w : Version) → f w ≡ false → g w ≡ false
   fails w e = ⊎_elim (λ t. absurd (both_ways (f w) e (narrow w t))) (λ t. t) (cases_Bool (g w))
 
-  pub narrow_none : (vs : List Version) → first f vs ≡ None → first g vs ≡ None
+  pub narrow_none : (vs : List Version) → find f vs ≡ None → find g vs ≡ None
   narrow_none vs e = first_of_none g vs (λ w m. fails w (first_none f vs e w m))
 
-  pub narrow_some : (vs : List Version) (v : Version) → first f vs ≡ Some v → g v ≡ true → first g vs ≡ Some v
+  pub narrow_some : (vs : List Version) (v : Version) → find f vs ≡ Some v → g v ≡ true → find g vs ≡ Some v
   narrow_some [] v e t = e
   narrow_some (w ∷ ws) v e t = ⊎_elim
-      (λ p. let q : w ≡ v = some_same w v (sym (cond-true (f w) (Some w) (first f ws) p) ∙ e) in cond-true (g w) (Some w) (first g ws) (subst (λ x. g x ≡ true) (sym q) t) ∙ ap Some q)
-      (λ p. cond-false (g w) (Some w) (first g ws) (fails w p) ∙ narrow_some ws v (sym (cond-false (f w) (Some w) (first f ws) p) ∙ e) t)
+      (λ p. let q : w ≡ v = same_Some w v (sym (cond-true (f w) (Some w) (find f ws) p) ∙ e) in cond-true (g w) (Some w) (find g ws) (subst (λ x. g x ≡ true) (sym q) t) ∙ ap Some q)
+      (λ p. cond-false (g w) (Some w) (find g ws) (fails w p) ∙ narrow_some ws v (sym (cond-false (f w) (Some w) (find f ws) p) ∙ e) t)
       (cases_Bool (f w))
 
-  pub narrow_past : (vs : List Version) (v : Version) → Sorted vs → first f vs ≡ Some v → g v ≡ false → ((w : Version) → before v w ≡ true → g w ≡ false) → first g vs ≡ None
+  pub narrow_past : (vs : List Version) (v : Version) → Sorted vs → find f vs ≡ Some v → g v ≡ false → ((w : Version) → before v w ≡ true → g w ≡ false) → find g vs ≡ None
   narrow_past vs v s e n past = first_of_none g vs (λ w m. ⊎_elim
       (λ t. ⊎_elim (λ (q : w ≡ v). subst (λ x. g x ≡ false) (sym q) n) (past w) (first_least f vs v s e w m t))
       (fails w) (cases_Bool (f w)))
 
--- ---- the newest version of a point, and the look, by the first from a place
+-- ---- the newest version of a point, and the look, by the find from a place
 
 abbrev pub from : Place → Version → Bool
 from a v = not (ahead (place_of v) a)

@@ -3,7 +3,8 @@ use Rattle.std.proofs.Common.{◌≡◌, Bool, true, List, [], ◌∷◌, sym, r
 use mathlib.Core.List.Memᴰ
 use mathlib.Core.List.{Memᴰ}
 use Rattle.std.proofs.lemmas.Bool.{and_parts, and_from}
-use Rattle.version.specs.Order.{before, every, sorted}
+use Rattle.std.specs.List.{list_all}
+use Rattle.version.specs.Order.{before, sorted}
 use Rattle.version.specs.declared.types.Version.{Version}
 
 infix 4 ◌∈◌
@@ -12,15 +13,15 @@ x ∈ xs = Memᴰ x xs
 
 -- ---- by membership
 
-pub each_of : (f : Version → Bool) (vs : List Version) → every f vs ≡ true → (w : Version) → w ∈ vs → f w ≡ true
+pub each_of : {A : Type 0} (f : A → Bool) (vs : List A) → list_all f vs ≡ true → (w : A) → w ∈ vs → f w ≡ true
 each_of f [] e w m = absurd (Memᴰ.not-nil m)
 each_of f (v ∷ vs) e w m =
-    let p = and_parts (f v) (every f vs) e in
+    let p = and_parts (f v) (list_all f vs) e in
     ⊎_elim (λ (q : w ≡ v). subst (λ x. f x ≡ true) (sym q) p.0) (λ n. each_of f vs p.1 w n) (Memᴰ.cases_cons m)
 
-pub every_from : (f : Version → Bool) (vs : List Version) → ((w : Version) → w ∈ vs → f w ≡ true) → every f vs ≡ true
+pub every_from : {A : Type 0} (f : A → Bool) (vs : List A) → ((w : A) → w ∈ vs → f w ≡ true) → list_all f vs ≡ true
 every_from f [] h = refl
-every_from f (v ∷ vs) h = and_from (f v) (every f vs) (h v (Memᴰ.head refl)) (every_from f vs (λ w m. h w (Memᴰ.tail m)))
+every_from f (v ∷ vs) h = and_from (f v) (list_all f vs) (h v (Memᴰ.head refl)) (every_from f vs (λ w m. h w (Memᴰ.tail m)))
 
 abbrev pub Ahead : Version → List Version → Type 0
 Ahead v vs = (w : Version) → w ∈ vs → before v w ≡ true
@@ -31,8 +32,8 @@ Sorted (v ∷ vs) = Ahead v vs × Sorted vs
 
 pub sorts : (vs : List Version) → sorted vs ≡ true → Sorted vs
 sorts [] e = tt
-sorts (v ∷ vs) e = let p = and_parts (every (before v) vs) (sorted vs) e in (each_of (before v) vs p.0, sorts vs p.1)
+sorts (v ∷ vs) e = let p = and_parts (list_all (before v) vs) (sorted vs) e in (each_of (before v) vs p.0, sorts vs p.1)
 
 pub sorted_from : (vs : List Version) → Sorted vs → sorted vs ≡ true
 sorted_from [] s = refl
-sorted_from (v ∷ vs) s = and_from (every (before v) vs) (sorted vs) (every_from (before v) vs s.0) (sorted_from vs s.1)
+sorted_from (v ∷ vs) s = and_from (list_all (before v) vs) (sorted vs) (every_from (before v) vs s.0) (sorted_from vs s.1)

@@ -1,5 +1,6 @@
 -- What a part answers, from the list of its versions, and what that list is after a taking.
-use Rattle.std.specs.Prelude.{◌≡◌, ℕ, Bool, true, false, cond, not, ◌&&◌, ◌||◌, List, [], ◌∷◌, ◌++◌, length, Some, None, Ok, Err, Option, Result, ◌==◌, nat_le}
+use Rattle.std.specs.Prelude.{◌≡◌, ℕ, Bool, true, false, cond, not, ◌&&◌, List, [], ◌∷◌, ◌++◌, length, Some, None, Ok, Err, Option, Result, ◌==◌, nat_le}
+use Rattle.std.specs.List.{find, list_any}
 use Rattle.version.specs.Order.{ahead, place_of, before, numbered}
 use Rattle.version.specs.declared.types.NotTaken.{NotTaken}
 use Rattle.version.specs.declared.types.NotTaken.TheVariants.{OutOfPlace, Full}
@@ -8,18 +9,13 @@ use Rattle.version.specs.declared.types.Version.{Version}
 
 -- ---- questions
 
--- the first version that passes a test
-abbrev pub first : (Version → Bool) → List Version → Option Version
-first f [] = None
-first f (v ∷ vs) = cond (f v) (Some v) (first f vs)
-
 -- the newest version of point p at or below number n
 abbrev pub newest : List Version → ℕ → ℕ → Option Version
-newest vs p n = first (λ v. (v.point == p) && nat_le v.number n) vs
+newest vs p n = find (λ v. (v.point == p) && nat_le v.number n) vs
 
 -- the first version at or after a place
 abbrev pub first_from : List Version → Place → Option Version
-first_from vs a = first (λ v. not (ahead (place_of v) a)) vs
+first_from vs a = find (λ v. not (ahead (place_of v) a)) vs
 
 -- a version that was found, if it is one of point p
 abbrev pub only : ℕ → Option Version → Option Version
@@ -33,14 +29,13 @@ Reaches a (Some v) = ahead (place_of v) a ≡ false
 
 -- of the least point at or above p that has a version at or below number n, the newest such version
 abbrev pub look : List Version → ℕ → ℕ → Option Version
-look vs p n = first (λ v. nat_le p v.point && nat_le v.number n) vs
+look vs p n = find (λ v. nat_le p v.point && nat_le v.number n) vs
 
 -- ---- takings
 
 -- some version has the point and the number of v
 abbrev pub held : List Version → Version → Bool
-held [] v = false
-held (w ∷ ws) v = (w.point == v.point && w.number == v.number) || held ws v
+held vs v = list_any (λ w. w.point == v.point && w.number == v.number) vs
 
 -- the version behind which no other stands
 abbrev pub last : List Version → Option Version
@@ -75,16 +70,24 @@ abbrev pub insert : List Version → Version → List Version
 insert [] v = v ∷ []
 insert (w ∷ ws) v = cond (before v w) (v ∷ w ∷ ws) (w ∷ insert ws v)
 
+-- what a part that holds vs answers when it is to take v, if `place` is where it takes one
+abbrev pub answer_of : (List Version → Version → Bool) → List Version → ℕ → Version → Result (Unit {0}) NotTaken
+answer_of place vs limit v = taking (place vs v) vs limit
+
+-- what it then holds, if `put` is how one goes in
+abbrev pub after_taking : (List Version → Version → Bool) → (List Version → Version → List Version) → List Version → ℕ → Version → List Version
+after_taking place put vs limit v = left_by (answer_of place vs limit v) vs (put vs v)
+
 -- what a memory part that holds vs answers when it is to take v, and what it then holds
 abbrev pub memory_answer : List Version → ℕ → Version → Result (Unit {0}) NotTaken
-memory_answer vs limit v = taking (memory_place vs v) vs limit
+memory_answer = answer_of memory_place
 
 abbrev pub memory_after : List Version → ℕ → Version → List Version
-memory_after vs limit v = left_by (memory_answer vs limit v) vs (insert vs v)
+memory_after = after_taking memory_place insert
 
 -- what a flash part that holds vs answers when it is to take v, and what it then holds
 abbrev pub flash_answer : List Version → ℕ → Version → Result (Unit {0}) NotTaken
-flash_answer vs limit v = taking (flash_place vs v) vs limit
+flash_answer = answer_of flash_place
 
 abbrev pub flash_after : List Version → ℕ → Version → List Version
-flash_after vs limit v = left_by (flash_answer vs limit v) vs (vs ++ v ∷ [])
+flash_after = after_taking flash_place (λ vs v. vs ++ v ∷ [])

@@ -1,5 +1,6 @@
 -- Version order: by point, lower first, and within a point by number, higher first.
 use Rattle.std.specs.Prelude.{◌≡◌, ℕ, ◌≤◌, Bool, true, not, ◌&&◌, ◌||◌, List, [], ◌∷◌, length, ◌==◌, nat_lt}
+use Rattle.std.specs.List.{list_all}
 use Rattle.version.specs.declared.types.Place.{Place}
 use Rattle.version.specs.declared.types.Version.{Version}
 
@@ -15,15 +16,10 @@ place_of v = record { point = v.point; number = v.number }
 abbrev pub before : Version → Version → Bool
 before v w = ahead (place_of v) (place_of w)
 
--- each of vs passes a test
-abbrev pub every : (Version → Bool) → List Version → Bool
-every f [] = true
-every f (v ∷ vs) = f v && every f vs
-
 -- each stands before all behind it: in version order, and no two alike in point and number
 abbrev pub sorted : List Version → Bool
 sorted [] = true
-sorted (v ∷ vs) = every (before v) vs && sorted vs
+sorted (v ∷ vs) = list_all (before v) vs && sorted vs
 
 -- no version has the number 0
 abbrev pub numbered : Version → Bool
@@ -32,5 +28,5 @@ numbered v = not (v.number == 0)
 -- what the versions of a part always are
 pub record Kept (vs : List Version) (limit : ℕ) : Type 0 where
   pub ordered : sorted vs ≡ true
-  pub proper : every numbered vs ≡ true
+  pub proper : list_all numbered vs ≡ true
   pub within : length vs ≤ limit

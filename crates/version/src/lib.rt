@@ -1,6 +1,7 @@
 // Versions, their order, and what a part of the store means.
 #![tactic(auto)]
 
+mod kind;
 mod limits;
 mod meaning;
 mod order;
@@ -9,10 +10,13 @@ mod scan;
 mod types;
 
 // What a version is, its place in version order, and why a part does not take one.
-pub use types::{Content, NotTaken, Place, Version};
+pub use types::{NotTaken, Place, Version};
 
-// What every part answers; a memory part takes a version at any place, a flash part one behind its last.
-pub use part::{FlashPart, MemoryPart, Part};
+// What every part answers, and how it takes a version.
+pub use part::{Part, TakingPart};
+
+// What a part serves as: a memory part takes a version at any place, a flash part one behind its last.
+pub use kind::{Flash, Kind, Memory};
 
 // How many versions a memory part and a flash part hold at most.
 pub use limits::{FLASH_MOST, MEMORY_MOST};

@@ -5,16 +5,16 @@ ghost use Rattle.version.specs.Lists.{look};
 use crate::part::Part;
 use crate::types::{Place, Version};
 
-// Of the least point at or above `point` that has a version at or below `number`, the newest such version.
-pub fn look<P: Part>(part: &P, point: u16, number: u32) -> Option<Version>
-    ensures { P.Part.sound part.now → result ≡ look (P.Part.versions part.now) point number }
+// Of the least point at or above the place's that has a version at or below its number, the newest such version.
+pub fn look<P: Part>(part: &P, place: Place) -> Option<Version>
+    ensures { P.Part.sound part.now → result ≡ look (P.Part.versions part.now) place.point place.number }
 {
-    let mut from = point;
+    let mut from = place.point;
     while let Some(found) = part.first_from(Place {
         point: from,
-        number,
+        ..place
     }) {
-        if found.number <= number {
+        if found.number <= place.number {
             return Some(found);
         }
         // All of this point's newer versions are passed over at once.

@@ -1,21 +1,15 @@
 // A version, its place in version order, and why a part does not take one.
 
-// What a version says of its point: a value, or that the point was removed.
-#[derive(Clone, Copy, PartialEq, Eq, Debug)]
-pub enum Content {
-    Value(i32),
-    Removed,
-}
-
 // One writing of a point, under its number; no version has the number 0.
 #[derive(Clone, Copy, PartialEq, Eq, Debug)]
 pub struct Version {
     pub point: u16,
     pub number: u32,
-    pub content: Content,
+    // none if the point was removed
+    pub value: Option<i32>,
 }
 
-// A place in version order, whether or not a version stands there.
+// A place in version order, whether or not a version stands there. The lesser of two places stands before the other.
 #[derive(Clone, Copy, PartialEq, Eq, Debug)]
 pub struct Place {
     pub point: u16,
@@ -34,6 +28,6 @@ impl Version {
     pub const BLANK: Version = Version {
         point: 0,
         number: 0,
-        content: Content::Removed,
+        value: None,
     };
 }

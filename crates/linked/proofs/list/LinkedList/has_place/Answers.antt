@@ -13,7 +13,7 @@ returns-then-version-ne0 c =
     let v = c.args.version in
     let vs = versions l.nodes.now l.first in
     let same : c.is_alike.result ≡ held vs v =
-    c.is_alike.ensures ∙ ap (λ f. alike f v) (c.version_at-found.ensures ∙ c.requires.answer) ∙ sym (held_alike vs v (sorts vs l.ordered)) in
+    c.is_alike.ensures ∙ ap (λ f. alike f v) (c.version_at-found.ensures ∙ c.requires.answer) ∙ sym (held_alike vs v (sorts vs l.chained.ordered)) in
     let t = c.if-version-ne0.true in
     let n : numbered v ≡ true = grind (arith, nat_tests) in
     ap not same ∙ sym (ap (λ b. b && not (held vs v)) n)

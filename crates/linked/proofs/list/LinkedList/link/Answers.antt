@@ -1,9 +1,9 @@
-use Rattle.std.proofs.Common.{◌≡◌, ◌<◌, true, not, length, None, subst}
+use Rattle.std.proofs.Common.{◌≡◌, ◌<◌, true, not, length, None}
 use Rattle.std.proofs.lemmas.Bool.{and_parts, not-true}
 use Rattle.version.specs.Lists.{held, memory_place}
 use Rattle.version.specs.Order.{numbered, place_of}
 use Rattle.version.specs.declared.types.Version.{Version}
-use Rattle.linked.specs.Chains.{Within, chain, versions, gap_at}
+use Rattle.linked.specs.Chains.{chain, versions, gap_at}
 use Rattle.linked.specs.declared.list.LinkedList.{LinkedList}
 use Rattle.linked.specs.declared.node.Gap.{Gap}
 use Rattle.linked.proofs.Puts.{Open, put_aside, put_first, put_behind}
@@ -15,44 +15,38 @@ module _ (l : LinkedList) (g : Gap) (v : Version) where
       let vs = versions l.nodes.now l.first in
       let both = and_parts (numbered v) (not (held vs v)) p in record {
         stands = e;
-        chained = record { whole = l.whole; inside = l.inside; ordered = l.ordered; proper = l.proper };
+        chained = l.chained;
         room = r;
         proper = both.0;
         free = not-true (held vs v) both.1;
       }
 
-pub put_behind-requires : goal.put_behind-requires
-put_behind-requires c =
-    let l = c.args.self.now in
-    let h = ready l c.args.gap c.args.version c.requires.gap c.requires.placed c.requires.room in record {
-      room = c.requires.room;
-      before = subst (Within (length l.nodes.now)) c.in-Some.is c.requires.before;
-      aside = put_aside l.nodes.now l.first c.args.version l.used c.args.gap h c.args.gap.after;
-      chained = (put_behind l.nodes.now l.first c.args.version l.used c.args.gap h c.in-Some.i c.in-Some.is).chained;
-    }
-
-pub put_first-requires : goal.put_first-requires
-put_first-requires c =
-    let l = c.args.self.now in
-    let h = ready l c.args.gap c.args.version c.requires.gap c.requires.placed c.requires.room in record {
-      room = c.requires.room;
-      chained = (put_first l.nodes.now l.first c.args.version l.used c.args.gap h c.in-None.is).chained;
-    }
-
-pub returns-in-Some : goal.returns-in-Some
-returns-in-Some c =
+pub put_behind-requires-clause-aside : goal.put_behind-requires-clause-aside
+put_behind-requires-clause-aside c =
     let l = c.args.self.now in
     let h = ready l c.args.gap c.args.version c.requires.gap c.requires.placed c.requires.room in
-    let g = put_behind l.nodes.now l.first c.args.version l.used c.args.gap h c.in-Some.i c.in-Some.is in
-    let list = g.list in
-    let same = g.same in
-    record { list = cc; same = cc }
+    put_aside l.nodes.now l.first c.args.version l.used c.args.gap h c.args.gap.after
 
-pub returns-in-None : goal.returns-in-None
-returns-in-None c =
+pub put_behind-requires-clause-chained : goal.put_behind-requires-clause-chained
+put_behind-requires-clause-chained c =
     let l = c.args.self.now in
     let h = ready l c.args.gap c.args.version c.requires.gap c.requires.placed c.requires.room in
-    let g = put_first l.nodes.now l.first c.args.version l.used c.args.gap h c.in-None.is in
-    let list = g.list in
-    let same = g.same in
-    record { list = cc; same = cc }
+    (put_behind l.nodes.now l.first c.args.version l.used c.args.gap h c.in-Some.i c.in-Some.is).chained
+
+pub put_first-requires-clause-chained : goal.put_first-requires-clause-chained
+put_first-requires-clause-chained c =
+    let l = c.args.self.now in
+    let h = ready l c.args.gap c.args.version c.requires.gap c.requires.placed c.requires.room in
+    (put_first l.nodes.now l.first c.args.version l.used c.args.gap h c.in-None.is).chained
+
+pub returns-in-Some-clause-list : goal.returns-in-Some-clause-list
+returns-in-Some-clause-list c =
+    let l = c.args.self.now in
+    let h = ready l c.args.gap c.args.version c.requires.gap c.requires.placed c.requires.room in
+    let list = (put_behind l.nodes.now l.first c.args.version l.used c.args.gap h c.in-Some.i c.in-Some.is).list in cc
+
+pub returns-in-None-clause-list : goal.returns-in-None-clause-list
+returns-in-None-clause-list c =
+    let l = c.args.self.now in
+    let h = ready l c.args.gap c.args.version c.requires.gap c.requires.placed c.requires.room in
+    let list = (put_first l.nodes.now l.first c.args.version l.used c.args.gap h c.in-None.is).list in cc

@@ -1,11 +1,11 @@
-use Rattle.std.proofs.Common.{◌≡◌, ℕ, ◌+◌, ◌*◌, List, [], ◌∷◌, ◌++◌, length, sym, refl, ap, ◌∙◌, subst}
+use Rattle.std.proofs.Common.{◌≡◌, ℕ, ◌+◌, ◌*◌, List, [], ◌∷◌, ◌++◌, length, sym, ap, ◌∙◌, subst}
 use Rattle.bits.specs.Fields.{Wrote}
 use Rattle.version.specs.Lists.{left_by}
 use Rattle.version.specs.Order.{Kept}
 use Rattle.version.specs.declared.types.Version.{Version}
 use Rattle.parts.specs.Packed.{room, record_number, version_at, versions_in, Packs}
 use Rattle.parts.proofs.Records.{length_versions, versions_more, packs_more}
-use Rattle.parts.proofs.packed.PackedFlashFlashPart.append.Goals as goal
+use Rattle.parts.proofs.packed.PackedFlashTakingPartFlash.take.Goals as goal
 
 -- what is known once the record is written
 pub record Written (xs ys : List ℕ) (n : ℕ) (v : Version) : Type 0 where
@@ -23,16 +23,16 @@ invariant_of-self c =
     let v = c.args.version in
     let ys = c.write_record.new.bytes in
     let w = written s.bytes.now ys c.take-bytes.result.now s.used v (ap (λ b. b.now) c.take-bytes.ensures.value) c.write_record.ensures.wrote c.write_record.ensures.says in
-    let kept = subst (λ l. Kept l s.limit) (sym w.more) c.in_ok-place_behind.ensures.1.kept in
+    let in_place = c.in_ok-admitted.ensures in
+    let kept = subst (λ l. Kept l s.limit) (sym w.more) (in_place.2.kept s.limit s.kept in_place.1) in
     let exact = subst (Packs ys) (sym w.more) (packs_more s.bytes.now ys s.used v (versions_in s.bytes.now s.used) s.counted w.wrote s.exact) in
     let roomy : s.limit ≡ room (length ys) = s.roomy ∙ ap room (sym w.wrote.long) in
-    record { roomy = roomy; counted = length_versions ys (s.used + 1); within = kept.within; ordered = kept.ordered; proper = kept.proper; exact = exact }
+    record { roomy = roomy; counted = length_versions ys (s.used + 1); kept = kept; exact = exact }
 
-pub returns : goal.returns
-returns c =
+pub returns-clause-list : goal.returns-clause-list
+returns-clause-list c = λ _.
     let s = c.args.self.now in
     let v = c.args.version in
     let vs = versions_in s.bytes.now s.used in
     let w = written s.bytes.now c.write_record.new.bytes c.take-bytes.result.now s.used v (ap (λ b. b.now) c.take-bytes.ensures.value) c.write_record.ensures.wrote c.write_record.ensures.says in
-    let taken = sym c.in_ok-place_behind.ensures.0 in
-    record { sound = λ _. tt; answer = λ _. taken; list = λ _. w.more ∙ ap (λ r. left_by r vs (vs ++ v ∷ [])) taken; same = refl; bits = w.wrote }
+    w.more ∙ ap (λ r. left_by r vs (vs ++ v ∷ [])) (sym c.in_ok-admitted.ensures.0)
