@@ -2,6 +2,7 @@
 ghost use Rattle.std.specs.Prelude.{◌≡◌, ◌+◌, ◌*◌, ◌^◌, ◌<◌, ◌≤◌, length};
 ghost use Rattle.bits.specs.Fields.{field};
 
+use crate::types::Field;
 use std::array;
 
 // The five bytes from `first` on, the first of them the highest.
@@ -27,19 +28,21 @@ fn last_bytes(bytes: &[u8], first: usize) -> u64
     five_bytes(&five, 0)
 }
 
-// The `width` bits from `place` on, as a number; at most five bytes are read.
-pub fn read_field(bytes: &[u8], place: usize, width: usize) -> u64
-    requires narrow { width ≤ 32 }
-    requires within { place + width ≤ 8 * length bytes.now }
-    requires small { place < 2 ^ 32 }
-    ensures value { result ≡ field bytes.now place width }
-    ensures bound { result < 2 ^ width }
-{
-    let first = place / 8;
-    let joined = if first + 5 <= bytes.len() {
-        five_bytes(bytes, first)
-    } else {
-        last_bytes(bytes, first)
-    };
-    (joined >> (40 - place % 8 - width)) % (1u64 << width)
+impl Field {
+    // The field of the head or record that begins at bit `place`, as a number; at most five bytes are read.
+    pub fn read(self, bytes: &[u8], place: usize) -> u64
+        requires within { place + self.at + self.width ≤ 8 * length bytes.now }
+        requires small { place + self.at < 2 ^ 32 }
+        ensures value { result ≡ field bytes.now (place + self.at) self.width }
+        ensures bound { result < 2 ^ self.width }
+    {
+        let start = place + self.at;
+        let first = start / 8;
+        let joined = if first + 5 <= bytes.len() {
+            five_bytes(bytes, first)
+        } else {
+            last_bytes(bytes, first)
+        };
+        (joined >> (40 - start % 8 - self.width)) % (1u64 << self.width)
+    }
 }

@@ -55,7 +55,7 @@ impl From<io::Error> for Failure {
     }
 }
 
-// By hand, and twice: a derived conversion keeps the error, and a `NotEncoded` or `NotRead` that tells of no memory has none.
+// By hand, and twice: a derived conversion keeps the error, and a `Failed` that tells of no memory has none.
 impl From<AllocError> for Failure {
     fn from(_e: AllocError) -> Failure {
         Failure::Memory

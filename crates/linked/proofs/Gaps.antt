@@ -1,18 +1,16 @@
 -- The gap in a chain where a place stands, what it tells, and the walk to it. Assumes nothing.
-use Rattle.std.proofs.Common.{◌≡◌, ℕ, ◌<◌, ◌≤◌, true, false, not, ◌||◌, eqb, ltb, ◌⊎◌, List, [], ◌∷◌, ◌++◌, length, Some, None, Option, sym, refl, ap, ◌∙◌, subst, inl, inr, ⊎_elim, arith}
+use Rattle.std.proofs.Common.{◌≡◌, ℕ, ◌<◌, ◌≤◌, true, false, ltb, ◌⊎◌, List, [], ◌∷◌, ◌++◌, length, Some, None, Option, sym, refl, ap, ◌∙◌, subst, inl, inr, ⊎_elim, arith}
 use mathlib.Core.List.Memᴰ
 use Rattle.std.proofs.lemmas.List.{map-append}
-use Rattle.std.proofs.lemmas.Bool.{cond-true, cond-false, cases_Bool, and_parts, not_from_true, not_from_false, eqb-true}
-use Rattle.std.proofs.lemmas.Bool.Decides.{nat_tests}
-use Rattle.version.specs.Lists.{Reaches, first_from, held}
-use Rattle.version.specs.Order.{ahead, place_of, before}
+use Rattle.std.proofs.lemmas.Bool.{cond-true, cond-false, cases_Bool, and_parts}
+use Rattle.version.specs.Lists.{Reaches, first_from}
+use Rattle.version.specs.Order.{ahead, place_of}
 use Rattle.version.specs.declared.types.Place.{Place}
-use Rattle.version.specs.declared.types.Version.{Version}
 use Rattle.std.proofs.lemmas.Option.{none-some}
 use Rattle.version.proofs.Firsts.{reaches_is}
-use Rattle.version.proofs.Sorts.{◌∈◌, Sorted}
-use Rattle.version.proofs.Takings.{Reached, AllAhead, head_of, first_from_cut, held_beyond, held_here}
-use Rattle.linked.specs.Chains.{node, walk, chain, at_all, versions, all_below, gap_at, Within, version_at, alike}
+use Rattle.version.proofs.Sorts.{◌∈◌}
+use Rattle.version.proofs.Takings.{Reached, AllAhead, head_of, first_from_cut}
+use Rattle.linked.specs.Chains.{node, walk, chain, at_all, versions, all_below, gap_at, Within, version_at}
 use Rattle.linked.specs.declared.node.Gap.{Gap}
 use Rattle.linked.specs.declared.node.Node.{Node}
 use Rattle.linked.proofs.Links.{chain_step, below_each, head_index}
@@ -89,26 +87,6 @@ first_behind ns a prev is =
     let e = ap (at_all ns) c.parts ∙ map-append (λ i. (node ns i).version) c.front c.back in
     let f = first_from_cut a (at_all ns c.front) (at_all ns c.back) c.passed c.reached in
     ap (version_at ns) c.later ∙ version_head ns c.back ∙ sym f ∙ ap (λ vs. first_from vs a) (sym e)
-
--- what stands at v's point and number, if anything, is the first from there
-pub held_alike : (vs : List Version) (v : Version) → Sorted vs → held vs v ≡ alike (first_from vs (place_of v)) v
-held_alike [] v s = refl
-held_alike (w ∷ ws) v s = ⊎_elim
-    (λ (t : before w v ≡ true).
-    let e = cond-false (not (before w v)) (Some w) (first_from ws (place_of v)) (not_from_true (before w v) t) in
-    let n : alike (Some w) v ≡ false = grind (arith, nat_tests) in
-    ap (λ b. b || held ws v) n ∙ held_alike ws v s.1 ∙ ap (λ f. alike f v) (sym e))
-    (λ (t : before w v ≡ false).
-    let e = cond-true (not (before w v)) (Some w) (first_from ws (place_of v)) (not_from_false (before w v) t) in
-    ⊎_elim
-    (λ (q : alike (Some w) v ≡ true).
-    let p = and_parts (eqb w.point v.point) (eqb w.number v.number) q in
-    held_here [] ws w v (λ u m. absurd (Memᴰ.not-nil m)) (eqb-true w.point v.point p.0) (eqb-true w.number v.number p.1) ∙ sym (ap (λ f. alike f v) e ∙ q))
-    (λ (q : alike (Some w) v ≡ false).
-    let b : before v w ≡ true = grind (arith, nat_tests) in
-    held_beyond [] (w ∷ ws) v s (λ u m. absurd (Memᴰ.not-nil m)) b ∙ sym (ap (λ f. alike f v) e ∙ q))
-    (cases_Bool (alike (Some w) v)))
-    (cases_Bool (before w v))
 
 -- ---- the gap's indices
 

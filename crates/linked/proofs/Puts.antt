@@ -139,18 +139,17 @@ module _ (ns : List Node) (o : Option ℕ) (v : Version) (k : ℕ) (g : Gap) (h 
         proper = subst (λ vs. list_all numbered vs ≡ true) (sym same) h.chained.proper;
       }
 
-  pub put_first : g.before ≡ None → Grown ns o v k (written ns k v o) (Some k)
+  pub put_first : g.before ≡ None → Grown ns o v k (written ns k v g.after) (Some k)
   put_first e =
-      let ms = written ns k v o in
+      let q = g.after in
+      let ms = written ns k v q in
       let z : c.front ≡ [] = last_none c.front (sym c.prior ∙ sym (ap (λ x. x.before) h.stands) ∙ e) in
       let all : Linked ns o c.back = subst (λ f. Linked ns o (f ++ c.back)) z linked in
-      let led : o ≡ g.after = linked_head ns o c.back all ∙ sym c.later ∙ sym (ap (λ x. x.after) h.stands) in
-      let n : node ms k ≡ record { version = v; next = g.after } = here o ∙ ap (λ q. record { version = v; next = q }) led in
-      grown ms (Some k) (length-set ns k (record { version = v; next = o }))
-      (subst (λ f. Linked ms (Some k) (f ++ k ∷ c.back)) (sym z) (onward ms o n (λ i m. aside o i (Memᴰ.append_right c.front m)) all))
-      (at_all_same ns ms c.front (λ i m. ap (λ x. x.version) (aside o i (Memᴰ.append_left c.back m))))
-      (at_all_same ns ms c.back (λ i m. ap (λ x. x.version) (aside o i (Memᴰ.append_right c.front m))))
-      (ap (λ x. x.version) n)
+      grown ms (Some k) (length-set ns k (record { version = v; next = q }))
+      (subst (λ f. Linked ms (Some k) (f ++ k ∷ c.back)) (sym z) (onward ms o (here q) (λ i m. aside q i (Memᴰ.append_right c.front m)) all))
+      (at_all_same ns ms c.front (λ i m. ap (λ x. x.version) (aside q i (Memᴰ.append_left c.back m))))
+      (at_all_same ns ms c.back (λ i m. ap (λ x. x.version) (aside q i (Memᴰ.append_right c.front m))))
+      (ap (λ x. x.version) (here q))
 
   behind : (p : ℕ) (js : List ℕ) → c.front ≡ js ++ p ∷ [] → Grown ns o v k (turned (written ns k v g.after) p k) o
   behind p js f =

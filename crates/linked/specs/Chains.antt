@@ -1,5 +1,5 @@
 -- Nodes that are chained by index, and the versions that a chain holds.
-use Rattle.std.specs.Prelude.{◌≡◌, ℕ, zero, suc, ◌<◌, Bool, true, false, cond, ◌&&◌, List, [], ◌∷◌, map, length, Some, None, Option, ◌==◌, nat_lt, slice_index_or, slice_set}
+use Rattle.std.specs.Prelude.{◌≡◌, ℕ, zero, suc, ◌<◌, Bool, true, cond, List, [], ◌∷◌, map, length, Some, None, Option, nat_lt, slice_index_or, slice_set}
 use Rattle.std.specs.List.{list_all}
 use Rattle.version.specs.Order.{ahead, place_of, sorted, numbered}
 use Rattle.version.specs.declared.types.Place.{Place}
@@ -70,8 +70,3 @@ Within n (Some i) = i < n
 abbrev pub version_at : List Node → Option ℕ → Option Version
 version_at ns None = None
 version_at ns (Some i) = Some (node ns i).version
-
--- a version, if there is one, has the point and the number of v
-abbrev pub alike : Option Version → Version → Bool
-alike None v = false
-alike (Some w) v = w.point == v.point && w.number == v.number

@@ -1,15 +1,16 @@
 // A part that chains its versions by index, in nodes that the caller lends. No version is ever moved.
-ghost use Rattle.std.specs.Prelude.{◌≡◌, ◌+◌, ◌<◌, ◌≤◌, min, true, [], length, Some, None};
+ghost use Rattle.std.specs.Prelude.{◌≡◌, ◌<◌, ◌≤◌, min, true, [], length, None};
 ghost use Rattle.std.proofs.Common.{rules};
-ghost use Rattle.linked.specs.Chains.{Chained, Within, chain, versions, gap_at, version_at, written, turned, alike};
+ghost use Rattle.linked.specs.Chains.{Chained, Within, chain, versions, gap_at, version_at};
 ghost use Rattle.version.specs.Lists.{Reaches, first_from, insert, memory_place};
 ghost use Rattle.version.specs.Order.{place_of};
 
 use crate::node::{Gap, Node};
-use version::{Kind, Memory, NotTaken, Part, Place, TakingPart, Version};
+use version::{Kind, Memory, NotTaken, Part, Place, TakingPart, Version, is_free, taking};
 
 // The nodes that hold versions are the first ones of the slice, as they came. A chain of links through them keeps
-// version order, so that a taking writes one new node and changes one link.
+// version order, so that a taking writes one new node and changes one link. Links are indices, and the count stands
+// beside the nodes, since all memory is lent and nothing allocates.
 #[derive(Drop)]
 pub struct LinkedList<'a> {
     nodes: &'a mut [Node],
@@ -71,40 +72,7 @@ impl<'a> LinkedList<'a> {
         requires answer { version_at self.now.nodes.now gap.after ≡ first_from (versions self.now.nodes.now self.now.first) (place_of version) }
         ensures { result ≡ memory_place (versions self.now.nodes.now self.now.first) version }
     {
-        let found = self.version_at(gap.after);
-        version.number != 0 && !is_alike(found, version)
-    }
-
-    // Puts a node for the version in front of the chain.
-    fn put_first(&mut self, version: Version)
-        requires room { self.old.used < length self.old.nodes.now }
-        requires chained { Chained (written self.old.nodes.now self.old.used version self.old.first) (self.old.used + 1) (Some self.old.used) }
-        ensures nodes { self.new.nodes.now ≡ written self.old.nodes.now self.old.used version self.old.first }
-        ensures first { self.new.first ≡ Some self.old.used }
-    {
-        self.nodes[self.used] = Node {
-            version,
-            next: self.first,
-        };
-        self.first = Some(self.used as u16);
-        self.used += 1;
-    }
-
-    // Puts a node for the version between a node and the one behind it, if any.
-    fn put_behind(&mut self, before: u16, after: Option<u16>, version: Version)
-        requires room { self.old.used < length self.old.nodes.now }
-        requires before { before < length self.old.nodes.now }
-        requires aside { Chained (written self.old.nodes.now self.old.used version after) self.old.used self.old.first }
-        requires chained { Chained (turned (written self.old.nodes.now self.old.used version after) before self.old.used) (self.old.used + 1) self.old.first }
-        ensures nodes { self.new.nodes.now ≡ turned (written self.old.nodes.now self.old.used version after) before self.old.used }
-        ensures first { self.new.first ≡ self.old.first }
-    {
-        self.nodes[self.used] = Node {
-            version,
-            next: after,
-        };
-        self.nodes[before as usize].next = Some(self.used as u16);
-        self.used += 1;
+        is_free(version, self.version_at(gap.after))
     }
 
     // Chains a node for the version into the gap where the version stands.
@@ -116,18 +84,17 @@ impl<'a> LinkedList<'a> {
         ensures list { versions self.new.nodes.now self.new.first ≡ insert (versions self.old.nodes.now self.old.first) version }
         ensures same { length self.new.nodes.now ≡ length self.old.nodes.now }
     {
+        let link = Some(self.used as u16);
+        self.nodes[self.used] = Node {
+            version,
+            next: gap.after,
+        };
         match gap.before {
-            Some(i) => self.put_behind(i, gap.after, version),
-            None => self.put_first(version),
+            Some(before) => self.nodes[before as usize].next = link,
+            None => self.first = link,
         }
+        self.used += 1;
     }
-}
-
-// Whether what was found, if anything, has the version's point and number.
-fn is_alike(found: Option<Version>, version: Version) -> bool
-    ensures { result ≡ alike found version }
-{
-    found.is_some_and(|other| other.place() == version.place())
 }
 
 impl Part for LinkedList<'_> {
@@ -135,9 +102,7 @@ impl Part for LinkedList<'_> {
 
     ghost most = { λ t. length t.nodes.now };
 
-    ghost sound = { λ _. Unit {0} };
-
-    ghost kept = { λ t _. record { ordered = t.chained.ordered; proper = t.chained.proper; within = Prim.search rules } };
+    ghost kept = { λ t. record { ordered = t.chained.ordered; proper = t.chained.proper; within = Prim.search rules } };
 
     fn count(&self) -> usize {
         self.used
@@ -160,12 +125,7 @@ impl Part for LinkedList<'_> {
 impl TakingPart<Memory> for LinkedList<'_> {
     fn take(&mut self, version: Version) -> Result<(), NotTaken> {
         let gap = self.gap(version.place());
-        if !self.has_place(gap, version) {
-            return Err(NotTaken::OutOfPlace);
-        }
-        if self.count() == self.limit() {
-            return Err(NotTaken::Full);
-        }
+        taking(self.has_place(gap, version), self.count(), self.limit())?;
         self.link(gap, version);
         Ok(())
     }

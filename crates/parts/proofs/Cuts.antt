@@ -1,5 +1,5 @@
 -- Versions in version order by their index: the rank of a place, and the list cut there. Assumes nothing.
-use Rattle.std.proofs.Common.{◌≡◌, ℕ, zero, suc, ◌+◌, ◌-◌, ◌<◌, ◌≤◌, true, false, not, List, [], ◌∷◌, ◌++◌, length, get_or, take, drop, Some, None, Option, sym, refl, ap, ◌∙◌, subst, ⊎_elim, arith}
+use Rattle.std.proofs.Common.{◌≡◌, ℕ, zero, suc, ◌+◌, ◌-◌, ◌<◌, ◌≤◌, Bool, true, false, not, List, [], ◌∷◌, ◌++◌, length, get_or, take, drop, Some, None, Option, sym, refl, ap, ◌∙◌, subst, ⊎_elim, arith}
 use mathlib.Core.List.Memᴰ
 use mathlib.Core.List.{Memᴰ}
 use Rattle.std.proofs.lemmas.List.{take-append-drop, drop_more, drop_all}
@@ -9,7 +9,7 @@ use Rattle.std.proofs.lemmas.Option.{slice_get-get_or, slice_get_past}
 use Rattle.std.proofs.lemmas.Bool.Decides.{nat_tests}
 use Rattle.std.specs.List.{insert as inserted}
 use Rattle.std.specs.List.{slice_get}
-use Rattle.parts.specs.Indexed.{rank_of, stands_before, in_front}
+use Rattle.parts.specs.Indexed.{rank_of, stands_before}
 use Rattle.version.specs.Lists.{first_from, Reaches, held, last, insert}
 use Rattle.version.specs.Order.{ahead, place_of, before}
 use Rattle.version.specs.declared.types.Place.{Place}
@@ -71,6 +71,11 @@ first_reaches vs a i at o is = reaches_is vs a o (first_got vs a i at o is)
 
 -- ---- the list cut at the rank of a place
 
+-- v stands in front of a version, if there is one
+abbrev in_front : Version → Option Version → Bool
+in_front v None = true
+in_front v (Some w) = before v w
+
 pub rank_le : (vs : List Version) (a : Place) → rank_of vs a ≤ length vs
 rank_le [] a = omega arith
 rank_le (v ∷ vs) a = let h = rank_le vs a in cond_both (ahead (place_of v) a) (suc (rank_of vs a)) 0 (λ r. r ≤ suc (length vs)) (λ _. omega arith) (λ _. omega arith)
@@ -104,7 +109,7 @@ module _ (vs : List Version) (v d : Version) (s : Sorted vs) where
       subst (λ l. held l v ≡ false) whole (held_beyond (take n vs) (drop n vs) v (subst Sorted (sym whole) s) (rank_front vs (place_of v)) b)
 
   -- v is free if it stands in front of what is at its rank
-  pub free_at_rank : not (held vs v) ≡ in_front v (slice_get vs (rank_of vs (place_of v)))
+  free_at_rank : not (held vs v) ≡ in_front v (slice_get vs (rank_of vs (place_of v)))
   free_at_rank =
       let n = rank_of vs (place_of v) in
       ⊎_elim

@@ -1,7 +1,7 @@
 -- Versions by their index: where a place stands among them, and where a version goes in.
 use Rattle.std.specs.Prelude.{◌≡◌, ℕ, suc, ◌<◌, ◌≤◌, Bool, true, false, cond, List, [], ◌∷◌, length, Some, None, Ok, Err, Option, Result}
 use Rattle.std.specs.List.{insert}
-use Rattle.version.specs.Order.{ahead, place_of, before, Kept}
+use Rattle.version.specs.Order.{ahead, place_of, Kept}
 use Rattle.version.specs.declared.types.NotTaken.{NotTaken}
 use Rattle.version.specs.declared.types.Place.{Place}
 use Rattle.version.specs.declared.types.Version.{Version}
@@ -15,11 +15,6 @@ rank_of (v ∷ vs) a = cond (ahead (place_of v) a) (suc (rank_of vs a)) 0
 abbrev pub stands_before : Option Version → Place → Bool
 stands_before None a = false
 stands_before (Some v) a = ahead (place_of v) a
-
--- v stands in front of a version, if there is one
-abbrev pub in_front : Version → Option Version → Bool
-in_front v None = true
-in_front v (Some w) = before v w
 
 -- v goes in among vs at index i, which makes them new
 pub record GoesIn (vs new : List Version) (v : Version) (i : ℕ) : Type 0 where

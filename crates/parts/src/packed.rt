@@ -1,17 +1,28 @@
 // Packed flash: a flash part whose versions lie as 81-bit records in the caller's bytes, without gaps.
 ghost use Rattle.std.specs.Prelude.{◌≡◌, ◌+◌, ◌*◌, ◌^◌, ◌<◌, ◌≤◌, [], length};
 ghost use Rattle.bits.specs.Fields.{Wrote};
+ghost use Rattle.bits.specs.Signed.{twos};
 ghost use Rattle.parts.specs.Packed.{room, removed_bit, value_bits, record_number, value_of, version_at, versions_in, Packs, Appends};
 ghost use Rattle.version.specs.Lists.{flash_answer, flash_after};
 ghost use Rattle.version.specs.Order.{Kept};
 
 use crate::rows::{Rows, admitted, first_in};
+use bits::Field;
 use std::mem;
 use version::{Flash, Kind, NotTaken, Part, Place, TakingPart, Version};
 
 // ---- one record
 
 const RECORD_BITS: usize = 81;
+
+// Its fields, one behind the other.
+const POINT: Field = Field { at: 0, width: 16 };
+
+const NUMBER: Field = Field { at: 16, width: 32 };
+
+const REMOVED: Field = Field { at: 48, width: 1 };
+
+const VALUE: Field = Field { at: 49, width: 32 };
 
 // The removed bit: 1 if the point was removed.
 fn removed_bit(value: Option<i32>) -> u64
@@ -21,13 +32,12 @@ fn removed_bit(value: Option<i32>) -> u64
     u64::from(value.is_none())
 }
 
-// The value in two's complement, or 0 if the point was removed; with the removed bit it gives the value back.
-fn value_bits(value: Option<i32>) -> u64
-    ensures value { result ≡ value_bits value }
-    ensures bound { result < 2 ^ 32 }
-    ensures back { value_of (removed_bit value) result ≡ value }
+// The value, or 0 if the point was removed; its bits and the removed bit give the value back.
+fn value_or_zero(value: Option<i32>) -> i32
+    ensures bits { twos 32 result ≡ value_bits value }
+    ensures back { value_of (removed_bit value) (value_bits value) ≡ value }
 {
-    value.map_or(0, |value| bits::to_twos(value, 32))
+    value.unwrap_or(0)
 }
 
 // Writes the record of a version from a bit place on.
@@ -37,24 +47,25 @@ fn write_record(bytes: &mut [u8], place: usize, version: Version)
     ensures wrote { Wrote bytes.old bytes.new place 81 (record_number version) }
     ensures says { version_at bytes.new place ≡ version }
 {
-    bits::write_field(bytes, place, 16, u64::from(version.point));
-    bits::write_field(bytes, place + 16, 32, u64::from(version.number));
-    bits::write_field(bytes, place + 48, 1, removed_bit(version.value));
-    bits::write_field(bytes, place + 49, 32, value_bits(version.value));
+    POINT.write(bytes, place, u64::from(version.point));
+    NUMBER.write(bytes, place, u64::from(version.number));
+    REMOVED.write(bytes, place, removed_bit(version.value));
+    VALUE.write_signed(bytes, place, value_or_zero(version.value));
 }
 
 // The version whose record begins at a bit place.
+#[tactic(auto, using(crate::proofs::Records::version_is))]
 fn read_record(bytes: &[u8], place: usize) -> Version
     requires within { place + 81 ≤ 8 * length bytes.now }
     requires small { place + 81 < 2 ^ 32 }
     ensures { result ≡ version_at bytes.now place }
 {
-    let point = bits::read_field(bytes, place, 16) as u16;
-    let number = bits::read_field(bytes, place + 16, 32) as u32;
-    let value = if bits::read_field(bytes, place + 48, 1) == 1 {
+    let point = POINT.read(bytes, place) as u16;
+    let number = NUMBER.read(bytes, place) as u32;
+    let value = if REMOVED.read(bytes, place) == 1 {
         None
     } else {
-        Some(bits::from_twos(bits::read_field(bytes, place + 49, 32), 32))
+        Some(VALUE.read_signed(bytes, place))
     };
     Version {
         point,
@@ -65,7 +76,8 @@ fn read_record(bytes: &[u8], place: usize) -> Version
 
 // ---- the part
 
-// Records in the caller's bytes: the first `used` of them are the part's versions, and the bits behind are of no account.
+// Records in the caller's bytes, where a `Vec` would allocate: the first `used` of them are the part's versions, and the
+// bits behind are of no account.
 #[derive(Drop)]
 pub struct PackedFlash<'a> {
     bytes: &'a mut [u8],
@@ -126,9 +138,7 @@ impl Part for PackedFlash<'_> {
 
     ghost most = { λ p. p.limit };
 
-    ghost sound = { λ _. Unit {0} };
-
-    ghost kept = { λ p _. p.kept };
+    ghost kept = { λ p. p.kept };
 
     fn count(&self) -> usize {
         self.len()
@@ -148,12 +158,11 @@ impl Part for PackedFlash<'_> {
 }
 
 impl TakingPart<Flash> for PackedFlash<'_> {
-    // What every flash part promises, here without a premise, and `bits`: of the bytes it changes those of the new
+    // What every flash part promises, and `bits`: of the bytes it changes those of the new
     // record alone, and none where it does not take the version.
     fn take(&mut self, version: Version) -> Result<(), NotTaken>
-        ensures sound { Unit {0} → Unit {0} }
-        ensures answer { Unit {0} → result ≡ flash_answer (versions_in self.old.bytes.now self.old.used) self.old.limit version }
-        ensures list { Unit {0} → versions_in self.new.bytes.now self.new.used ≡ flash_after (versions_in self.old.bytes.now self.old.used) self.old.limit version }
+        ensures answer { result ≡ flash_answer (versions_in self.old.bytes.now self.old.used) self.old.limit version }
+        ensures list { versions_in self.new.bytes.now self.new.used ≡ flash_after (versions_in self.old.bytes.now self.old.used) self.old.limit version }
         ensures same { self.new.limit ≡ self.old.limit }
         ensures bits { Appends self.old.bytes.now self.new.bytes.now self.old.used version result }
     {

@@ -1,12 +1,12 @@
 // Versions in order that can be read by their index: the binary search, and the takings, that sorted table and packed flash share.
 ghost use Rattle.std.specs.Prelude.{◌≡◌, true, List, length};
 ghost use Rattle.std.specs.List.{slice_get};
-ghost use Rattle.parts.specs.Indexed.{rank_of, stands_before, in_front, Seated, Admits};
-ghost use Rattle.version.specs.Lists.{first_from, Reaches, behind, memory_place, flash_place, answer_of};
-ghost use Rattle.version.specs.Order.{place_of, sorted, Kept};
+ghost use Rattle.parts.specs.Indexed.{rank_of, stands_before, Seated, Admits};
+ghost use Rattle.version.specs.Lists.{first_from, Reaches, behind, flash_place, answer_of};
+ghost use Rattle.version.specs.Order.{sorted, Kept};
 ghost use Rattle.version.specs.declared.types.Version.{Version};
 
-use version::{Flash, Kind, Memory, NotTaken, Place, Version};
+use version::{Flash, Kind, Memory, NotTaken, Place, Version, is_free, taking};
 
 pub trait Rows {
     ghost list: { Self → List Version };
@@ -46,13 +46,6 @@ fn is_before(found: Option<Version>, place: Place) -> bool
     found.is_some_and(|version| version.place().is_before(place))
 }
 
-// Whether a version stands in front of another, if there is one.
-fn is_ahead(version: Version, other: Option<Version>) -> bool
-    ensures { result ≡ in_front version other }
-{
-    other.is_none_or(|other| version.place().is_before(other.place()))
-}
-
 // Whether a version stands behind another, if there is one.
 fn follows(version: Version, other: Option<Version>) -> bool
     ensures { result ≡ behind other version }
@@ -80,7 +73,7 @@ impl Seats for Memory {
     #[tactic(auto, using(crate::proofs::Seats::memory_seat))]
     fn seat<R: Rows>(rows: &R, version: Version) -> Option<usize> {
         let at = rank(rows, version.place());
-        is_free(rows, at, version).then_some(at)
+        is_free(version, rows.get(at)).then_some(at)
     }
 }
 
@@ -89,15 +82,6 @@ impl Seats for Flash {
     fn seat<R: Rows>(rows: &R, version: Version) -> Option<usize> {
         is_behind(rows, version).then_some(rows.len())
     }
-}
-
-// Whether a version is one, and its place, which has the rank `at`, is free.
-fn is_free<R: Rows>(rows: &R, at: usize, version: Version) -> bool
-    requires { at ≡ rank_of (R.Rows.list rows.now) (place_of version) }
-    ensures { result ≡ memory_place (R.Rows.list rows.now) version }
-{
-    // What stands at the rank stands behind this place, or is there.
-    version.number != 0 && is_ahead(version, rows.get(at))
 }
 
 // Whether a version is one, and stands behind the last, which is the only one read.
@@ -116,9 +100,7 @@ pub(crate) fn admitted<K: Seats, R: Rows>(
     requires { Kept (R.Rows.list rows.now) limit }
     ensures { Admits (R.Rows.list rows.now) (K.Kind.put (R.Rows.list rows.now) version) limit version (answer_of K.Kind.place (R.Rows.list rows.now) limit version) result }
 {
-    let at = K::seat(rows, version).ok_or(NotTaken::OutOfPlace)?;
-    if rows.len() == limit {
-        return Err(NotTaken::Full);
-    }
-    Ok(at)
+    let seat = K::seat(rows, version);
+    taking(seat.is_some(), rows.len(), limit)?;
+    Ok(seat.unwrap())
 }

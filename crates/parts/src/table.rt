@@ -7,7 +7,7 @@ use crate::rows::{Rows, Seats, admitted, first_in};
 use std::marker::PhantomData;
 use version::{Flash, Kind, Memory, NotTaken, Part, Place, TakingPart, Version};
 
-// Lent slots, of which the first `used` hold versions.
+// Lent slots, of which the first `used` hold versions: a `Vec` would allocate.
 #[derive(Drop)]
 struct Slots<'a> {
     slots: &'a mut [Version],
@@ -35,20 +35,10 @@ impl Slots<'_> {
         ensures long { length self.new.slots.now ≡ length self.old.slots.now }
         ensures list { take self.new.used self.new.slots.now ≡ insert (take self.old.used self.old.slots.now) at version }
     {
-        let used = self.used;
-        insert_at(self.slots, used, at, version);
-        self.used = used + 1;
+        self.slots.copy_within(at..self.used, at + 1);
+        self.slots[at] = version;
+        self.used += 1;
     }
-}
-
-// The same of a slice.
-fn insert_at(slots: &mut [Version], used: usize, at: usize, version: Version)
-    requires room { used < length slots.old }
-    requires within { at ≤ used }
-    ensures { take (used + 1) slots.new ≡ insert (take used slots.old) at version }
-{
-    slots.copy_within(at..used, at + 1);
-    slots[at] = version;
 }
 
 impl<'a, K: Kind> SortedTable<'a, K> {
@@ -87,9 +77,7 @@ impl<K> Part for SortedTable<'_, K> {
 
     ghost most = { λ t. length t.rows.slots.now };
 
-    ghost sound = { λ _. Unit {0} };
-
-    ghost kept = { λ t _. t.kept };
+    ghost kept = { λ t. t.kept };
 
     fn count(&self) -> usize {
         self.len()

@@ -150,7 +150,8 @@ static MORE_RECORDS: [(u8, &[Step], &str); 7] = [
     ),
 ];
 
-// The bytes that a text spells: two digits each, with blanks between them.
+// The bytes that a text spells: two digits each, with blanks between them. The tests of the picture have the same; a crate
+// for these lines would be no plainer.
 fn spelled(heap: Global, text: &str) -> Result<Vec<u8>, Fail> {
     let mut bytes = Vec::new(heap);
     for word in text.split(' ') {

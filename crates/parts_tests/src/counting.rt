@@ -20,8 +20,6 @@ impl<P: Part> Part for Counting<'_, P> {
 
     ghost most = { λ c. P.Part.most c.below };
 
-    ghost sound = { λ c. P.Part.sound c.below };
-
     ghost kept = { λ c. P.Part.kept c.below };
 
     fn count(&self) -> usize {

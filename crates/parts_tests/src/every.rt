@@ -21,6 +21,7 @@ fn part_and_fence<K: Kind, P: TakingPart<K> + Drop>(
     runs(rt, cases[1], &mut Fence::new(part), scripts);
 }
 
+// The memory that a part is lent has a type of its own, so each part is made by itself.
 pub fn every_memory_part(rt: &impl Abort, scripts: &[&[Step]]) {
     let mut slots = [BLANK; 8];
     let mut nodes = [LOOSE; 8];

@@ -1,23 +1,18 @@
 // What must hold of bytes that are a picture, and of bytes that are none. Readings are given as points with their values, and bytes as docs/PICTURE.md
 // spells them.
 use picture::{
-    NotEncoded, NotRead, Reader, Reading, Refused, ask, dingaruho_ask, dingaruho_refused_at,
-    encode, read, read_head,
+    Failed, Reader, Reading, Refused, ask, dingaruho_ask, dingaruho_refused_at, encode, read,
+    read_head,
 };
 use std::alloc::Global;
 use std::process::Abort;
 use std::test::Fail;
 
-// One item more at the end of a list.
-pub fn put<T: Drop>(list: &mut Vec<T>, item: T) -> Result<(), Fail> {
-    list.push(item).map_err(|_| Fail::new("no memory"))
-}
-
 // The bytes that a text spells: two digits each, with blanks between them.
 pub fn spelled(heap: Global, text: &str) -> Result<Vec<u8>, Fail> {
     let mut bytes = Vec::new(heap);
     for word in text.split(' ') {
-        put(&mut bytes, u8::from_str_radix(word, 16)?)?;
+        bytes.push(u8::from_str_radix(word, 16)?)?;
     }
     Ok(bytes)
 }
@@ -26,13 +21,10 @@ pub fn spelled(heap: Global, text: &str) -> Result<Vec<u8>, Fail> {
 fn readings_of(heap: Global, pairs: &[(u16, i32)]) -> Result<Vec<Reading>, Fail> {
     let mut readings = Vec::new(heap);
     for (point, value) in pairs {
-        put(
-            &mut readings,
-            Reading {
-                point: *point,
-                value: *value,
-            },
-        )?;
+        readings.push(Reading {
+            point: *point,
+            value: *value,
+        })?;
     }
     Ok(readings)
 }
@@ -52,7 +44,7 @@ pub fn stops(
     number: u8,
 ) -> Result<(), Fail> {
     let readings = readings_of(heap, pairs)?;
-    let Err(NotEncoded::Stopped(e)) = encode(heap, 0, readings.as_slice()) else {
+    let Err(Failed::Refused(e)) = encode(heap, 0, readings.as_slice()) else {
         return Err(Fail::new("encoded, or no memory"));
     };
     assert_eq!(rt; (e.index, e.refusal.number()), (index, number));
@@ -82,7 +74,7 @@ fn said_by(heap: Global, bytes: &[u8]) -> Result<(u32, u32, Vec<(u16, i32)>), Fa
     };
     let mut pairs = Vec::new(heap);
     for reading in said.readings.iter() {
-        put(&mut pairs, (reading.point, reading.value))?;
+        pairs.push((reading.point, reading.value))?;
     }
     Ok((said.handle, said.width, pairs))
 }
@@ -142,7 +134,7 @@ pub fn is_refused(
         i64::try_from(place).ok(),
         "{case}"
     );
-    let Err(NotRead::Refused(e)) = read(heap, bytes) else {
+    let Err(Failed::Refused(e)) = read(heap, bytes) else {
         return Err(Fail::new("read, or no memory"));
     };
     assert_eq!(rt; Some((e.refusal.number(), e.place)), refusal, "{case}");

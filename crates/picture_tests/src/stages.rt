@@ -1,6 +1,6 @@
 // A script of calls on the states of a writer, with what each is answered.
 use crate::common::spelled;
-use picture::{Measuring, Reading, Sealed, Writing};
+use picture::{HandedBack, Measuring, Reading, Sealed, Writing};
 use std::alloc::Global;
 use std::process::Abort;
 use std::test::Fail;
@@ -33,31 +33,29 @@ fn size_of(stage: &Stage) -> Option<usize> {
     }
 }
 
-fn measured(state: Measuring, reading: Reading) -> (Stage, Option<u8>) {
-    match state.measure(reading) {
-        Ok(next) => (Stage::Measured(next), None),
-        Err(back) => (Stage::Measured(back.state), Some(back.refusal.number())),
+impl From<Measuring> for Stage {
+    fn from(state: Measuring) -> Stage {
+        Stage::Measured(state)
     }
 }
 
-fn turned(state: Measuring, bytes: &mut [u8]) -> (Stage, Option<u8>) {
-    match state.into_writing(bytes) {
-        Ok(next) => (Stage::Written(next), None),
-        Err(back) => (Stage::Measured(back.state), Some(back.refusal.number())),
+impl From<Writing> for Stage {
+    fn from(state: Writing) -> Stage {
+        Stage::Written(state)
     }
 }
 
-fn added(state: Writing, bytes: &mut [u8], reading: Reading) -> (Stage, Option<u8>) {
-    match state.add(bytes, reading) {
-        Ok(next) => (Stage::Written(next), None),
-        Err(back) => (Stage::Written(back.state), Some(back.refusal.number())),
+impl From<Sealed> for Stage {
+    fn from(state: Sealed) -> Stage {
+        Stage::Done(state)
     }
 }
 
-fn sealed(state: Writing, bytes: &[u8]) -> (Stage, Option<u8>) {
-    match state.seal(bytes) {
-        Ok(next) => (Stage::Done(next), None),
-        Err(back) => (Stage::Written(back.state), Some(back.refusal.number())),
+// The state that a call leaves, and the number of the refusal if it is refused.
+fn left<T: Into<Stage>, S: Into<Stage>>(answer: Result<T, HandedBack<S>>) -> (Stage, Option<u8>) {
+    match answer {
+        Ok(next) => (next.into(), None),
+        Err(back) => (back.state.into(), Some(back.refusal.number())),
     }
 }
 
@@ -65,17 +63,16 @@ fn sealed(state: Writing, bytes: &[u8]) -> (Stage, Option<u8>) {
 fn after(stage: Stage, bytes: &mut [u8; 16], call: Call) -> Result<(Stage, Option<u8>), Fail> {
     match stage {
         Stage::Measured(state) => match call {
-            Call::Measure(point, value) => Ok(measured(state, Reading { point, value })),
-            Call::Turn(lent) => Ok(turned(state, &mut bytes[0..lent.min(16)])),
+            Call::Measure(point, value) => Ok(left(state.measure(Reading { point, value }))),
+            Call::Turn(lent) => Ok(left(state.into_writing(&mut bytes[0..lent.min(16)]))),
             _ => Err(Fail::new("a call of a later state")),
         },
         Stage::Written(state) => match call {
-            Call::Add(lent, point, value) => Ok(added(
-                state,
+            Call::Add(lent, point, value) => Ok(left(state.add(
                 &mut bytes[0..lent.min(16)],
                 Reading { point, value },
-            )),
-            Call::Seal(lent) => Ok(sealed(state, &bytes[0..lent.min(16)])),
+            ))),
+            Call::Seal(lent) => Ok(left(state.seal(&bytes[0..lent.min(16)]))),
             _ => Err(Fail::new("a call of an earlier state")),
         },
         Stage::Done(_) => Err(Fail::new("a call on a sealed picture")),

@@ -1,5 +1,5 @@
 // The writer: what is refused, in which order, and that a state that was handed back goes on.
-use crate::common::{encoded, is_picture, put, stops};
+use crate::common::{encoded, is_picture, stops};
 use crate::stages::Call::*;
 use crate::stages::{Step, runs};
 use std::alloc::Global;
@@ -146,7 +146,7 @@ fn points_that_do_not_rise(rt: HostRuntime) -> Result<(), Fail> {
 fn many(heap: Global, count: u16, value: i32) -> Result<Vec<(u16, i32)>, Fail> {
     let mut pairs = Vec::new(heap);
     for point in 0..count {
-        put(&mut pairs, (point, value))?;
+        pairs.push((point, value))?;
     }
     Ok(pairs)
 }
@@ -170,7 +170,7 @@ fn as_many_readings_as_there_may_be(rt: HostRuntime) -> Result<(), Fail> {
             *width,
             pairs.as_slice(),
         )?;
-        put(&mut pairs, (4096, *value))?;
+        pairs.push((4096, *value))?;
         stops(&rt, heap, pairs.as_slice(), 4096, 12)?;
     }
     Ok(())
@@ -188,7 +188,7 @@ static BEHIND_ALL: [Step; 4] = [
 fn one_reading_too_many(rt: HostRuntime) -> Result<(), Fail> {
     let mut script = Vec::new(rt.alloc());
     for point in 0..4096u16 {
-        put(&mut script, (Measure(point, -1), None))?;
+        script.push((Measure(point, -1), None))?;
     }
     script.extend_from_slice(&BEHIND_ALL)?;
     runs(

@@ -48,6 +48,7 @@ impl RuleBook for Claims {
         ClaimRule::try_from(code).is_ok()
     }
 
+    // A book's rules are named here alone: one `decide` for both books would ask for this match under another name.
     fn decide(&self, code: u8, argument: i32, old: Option<i32>) -> Outcome {
         match ClaimRule::try_from(code) {
             Ok(ClaimRule::Claim) => claim(argument, old),

@@ -3,10 +3,10 @@ use Rattle.std.proofs.Common.{◌≡◌, ℕ, suc, ◌<◌, Bool, true, false, c
 use mathlib.Core.List.Memᴰ
 use mathlib.Core.List.{Memᴰ}
 use Rattle.std.proofs.lemmas.List.{length-append}
-use Rattle.std.proofs.lemmas.Bool.{cond_both, cond-true, cond-false, cases_Bool, cases_eq, and_parts, or_parts, or_from, not-true, eq-eqb, ne_eqb}
+use Rattle.std.proofs.lemmas.Bool.{cond_both, cond-true, cond-false, cases_Bool, cases_eq, and_parts, or_parts, or_from, not-true, not_from_true, not_from_false, eqb-true, eq-eqb, ne_eqb}
 use Rattle.std.proofs.lemmas.Bool.Decides.{nat_tests}
-use Rattle.version.specs.Lists.{first_from, held, last, behind, memory_place, flash_place, taking, left_by, insert, memory_after, flash_after}
-use Rattle.version.specs.Order.{ahead, place_of, before, numbered, Kept}
+use Rattle.version.specs.Lists.{first_from, held, alike, last, behind, memory_place, flash_place, taking, left_by, insert, memory_after, flash_after}
+use Rattle.version.specs.Order.{ahead, place_of, before, sorted, numbered, Kept}
 use Rattle.version.specs.declared.types.NotTaken.{NotTaken}
 use Rattle.version.specs.declared.types.NotTaken.TheVariants.{OutOfPlace, Full}
 use Rattle.version.specs.declared.types.Place.{Place}
@@ -84,10 +84,31 @@ insert_cut (u ∷ us) ws v f b =
     let n : before v u ≡ false = grind (arith, nat_tests) in
     cond-false (before v u) (v ∷ u ∷ (us ++ ws)) (u ∷ insert (us ++ ws) v) n ∙ ap (λ l. u ∷ l) (insert_cut us ws v (λ w m. f w (Memᴰ.tail m)) b)
 
--- ---- what the versions of a part stay
+-- what stands at v's point and number, if anything, is the first from there
+pub held_alike : (vs : List Version) (v : Version) → Sorted vs → held vs v ≡ alike (first_from vs (place_of v)) v
+held_alike [] v s = refl
+held_alike (w ∷ ws) v s = ⊎_elim
+    (λ (t : before w v ≡ true).
+    let e = cond-false (not (before w v)) (Some w) (first_from ws (place_of v)) (not_from_true (before w v) t) in
+    let n : alike (Some w) v ≡ false = grind (arith, nat_tests) in
+    ap (λ b. b || held ws v) n ∙ held_alike ws v s.1 ∙ ap (λ f. alike f v) (sym e))
+    (λ (t : before w v ≡ false).
+    let e = cond-true (not (before w v)) (Some w) (first_from ws (place_of v)) (not_from_false (before w v) t) in
+    ⊎_elim
+    (λ (q : alike (Some w) v ≡ true).
+    let p = and_parts (eqb w.point v.point) (eqb w.number v.number) q in
+    held_here [] ws w v (λ u m. absurd (Memᴰ.not-nil m)) (eqb-true w.point v.point p.0) (eqb-true w.number v.number p.1) ∙ sym (ap (λ f. alike f v) e ∙ q))
+    (λ (q : alike (Some w) v ≡ false).
+    let b : before v w ≡ true = grind (arith, nat_tests) in
+    held_beyond [] (w ∷ ws) v s (λ u m. absurd (Memᴰ.not-nil m)) b ∙ sym (ap (λ f. alike f v) e ∙ q))
+    (cases_Bool (alike (Some w) v)))
+    (cases_Bool (before w v))
 
-pub kept_none : (limit : ℕ) → Kept [] limit
-kept_none limit = record { ordered = refl; proper = refl; within = omega arith }
+-- so a memory part sees by what it finds from the place on whether it may take a version
+pub free_found : (vs : List Version) (v : Version) → sorted vs ≡ true → (o : Option Version) → o ≡ first_from vs (place_of v) → (b : Bool) → b ≡ (numbered v && not (alike o v)) → b ≡ memory_place vs v
+free_found vs v s o is b e = e ∙ ap (λ a. numbered v && not a) (ap (λ f. alike f v) is ∙ sym (held_alike vs v (sorts vs s)))
+
+-- ---- what the versions of a part stay
 
 pub insert_cases : (vs : List Version) (v w : Version) → w ∈ insert vs v → (w ≡ v) ⊎ (w ∈ vs)
 insert_cases [] v w m = inl (Memᴰ.eq_of_singleton m)
@@ -147,17 +168,17 @@ kept_append vs limit v k n b l =
 -- ---- the three answers, with the list that each leaves; `placed` is whether the version is in place
 
 module _ (placed : Bool) (vs new : List Version) (limit : ℕ) where
-  answers : (r : Result (Unit {0}) NotTaken) → taking placed vs limit ≡ r → (r ≡ taking placed vs limit) × (left_by r vs new ≡ left_by (taking placed vs limit) vs new)
+  answers : (r : Result (Unit {0}) NotTaken) → taking placed (length vs) limit ≡ r → (r ≡ taking placed (length vs) limit) × (left_by r vs new ≡ left_by (taking placed (length vs) limit) vs new)
   answers r e = (sym e, ap (λ a. left_by a vs new) (sym e))
 
-  pub taking_out : placed ≡ false → (Err OutOfPlace ≡ taking placed vs limit) × (vs ≡ left_by (taking placed vs limit) vs new)
+  pub taking_out : placed ≡ false → (Err OutOfPlace ≡ taking placed (length vs) limit) × (vs ≡ left_by (taking placed (length vs) limit) vs new)
   taking_out p = answers (Err OutOfPlace) (cond-false placed (cond (eqb (length vs) limit) (Err Full) (Ok tt)) (Err OutOfPlace) p)
 
-  pub taking_full : placed ≡ true → length vs ≡ limit → (Err Full ≡ taking placed vs limit) × (vs ≡ left_by (taking placed vs limit) vs new)
+  pub taking_full : placed ≡ true → length vs ≡ limit → (Err Full ≡ taking placed (length vs) limit) × (vs ≡ left_by (taking placed (length vs) limit) vs new)
   taking_full p l = answers (Err Full)
       (cond-true placed (cond (eqb (length vs) limit) (Err Full) (Ok tt)) (Err OutOfPlace) p ∙ cond-true (eqb (length vs) limit) (Err Full) (Ok tt) (eq-eqb (length vs) limit l))
 
-  pub taking_in : placed ≡ true → (length vs ≡ limit → ⊥) → (Ok tt ≡ taking placed vs limit) × (new ≡ left_by (taking placed vs limit) vs new)
+  pub taking_in : placed ≡ true → (length vs ≡ limit → ⊥) → (Ok tt ≡ taking placed (length vs) limit) × (new ≡ left_by (taking placed (length vs) limit) vs new)
   taking_in p l = answers (Ok tt)
       (cond-true placed (cond (eqb (length vs) limit) (Err Full) (Ok tt)) (Err OutOfPlace) p ∙ cond-false (eqb (length vs) limit) (Err Full) (Ok tt) (ne_eqb (length vs) limit l))
 

@@ -37,6 +37,11 @@ look vs p n = find (λ v. nat_le p v.point && nat_le v.number n) vs
 abbrev pub held : List Version → Version → Bool
 held vs v = list_any (λ w. w.point == v.point && w.number == v.number) vs
 
+-- a version, if there is one, has the point and the number of v
+abbrev pub alike : Option Version → Version → Bool
+alike None v = false
+alike (Some w) v = w.point == v.point && w.number == v.number
+
 -- the version behind which no other stands
 abbrev pub last : List Version → Option Version
 last [] = None
@@ -56,9 +61,9 @@ memory_place vs v = numbered v && not (held vs v)
 abbrev pub flash_place : List Version → Version → Bool
 flash_place vs v = numbered v && behind (last vs) v
 
--- what is answered where a version is in place, or is not, and there are vs under a limit
-abbrev pub taking : Bool → List Version → ℕ → Result (Unit {0}) NotTaken
-taking placed vs limit = cond placed (cond (length vs == limit) (Err Full) (Ok tt)) (Err OutOfPlace)
+-- what is answered where a version is in place, or is not, and there are so many versions under a limit
+abbrev pub taking : Bool → ℕ → ℕ → Result (Unit {0}) NotTaken
+taking placed count limit = cond placed (cond (count == limit) (Err Full) (Ok tt)) (Err OutOfPlace)
 
 -- the list that such an answer leaves
 abbrev pub left_by : Result (Unit {0}) NotTaken → List Version → List Version → List Version
@@ -72,7 +77,7 @@ insert (w ∷ ws) v = cond (before v w) (v ∷ w ∷ ws) (w ∷ insert ws v)
 
 -- what a part that holds vs answers when it is to take v, if `place` is where it takes one
 abbrev pub answer_of : (List Version → Version → Bool) → List Version → ℕ → Version → Result (Unit {0}) NotTaken
-answer_of place vs limit v = taking (place vs v) vs limit
+answer_of place vs limit v = taking (place vs v) (length vs) limit
 
 -- what it then holds, if `put` is how one goes in
 abbrev pub after_taking : (List Version → Version → Bool) → (List Version → Version → List Version) → List Version → ℕ → Version → List Version

@@ -4,8 +4,6 @@ ghost use Rattle.version.specs.Kinds.{StandsBetween, inserted, appended};
 ghost use Rattle.version.specs.Lists.{insert, memory_place, flash_place};
 ghost use Rattle.version.specs.declared.types.Version.{Version};
 
-use crate::limits::{FLASH_MOST, MEMORY_MOST};
-
 pub trait Kind {
     ghost MOST: { ℕ };
 
@@ -39,7 +37,7 @@ impl Kind for Memory {
 
     ghost between = { inserted };
 
-    const MOST: usize = MEMORY_MOST;
+    const MOST: usize = 1024;
 }
 
 impl Kind for Flash {
@@ -51,5 +49,5 @@ impl Kind for Flash {
 
     ghost between = { appended };
 
-    const MOST: usize = FLASH_MOST;
+    const MOST: usize = 4096;
 }

@@ -1,11 +1,11 @@
 // Version order, by which every part keeps its versions.
-ghost use Rattle.std.specs.Prelude.{◌≡◌};
+ghost use Rattle.std.specs.Prelude.{◌≡◌, ◌&&◌, not};
 ghost use Rattle.std.proofs.Common.{rules};
 ghost use Rattle.std.specs.Cmp.{partial_order_from_own_ties};
 ghost use Rattle.std.specs.Cmp.Rules.{comparing};
 ghost use Rattle.std.specs.Ordering.{nat_cmp, on, flip_args, then_cmp, as_partial_cmp};
-ghost use Rattle.version.specs.Lists.{only};
-ghost use Rattle.version.specs.Order.{ahead, place_of};
+ghost use Rattle.version.specs.Lists.{only, alike};
+ghost use Rattle.version.specs.Order.{ahead, place_of, numbered};
 
 use crate::types::{Place, Version};
 use std::cmp::Ordering;
@@ -63,4 +63,11 @@ pub fn of_point(found: Option<Version>, point: u16) -> Option<Version>
     ensures { result ≡ only point found }
 {
     found.filter(|version| version.point == point)
+}
+
+// Whether a memory part may take a version, by what it finds from the version's place on: it is one, and stands there not yet.
+pub fn is_free(version: Version, found: Option<Version>) -> bool
+    ensures { result ≡ (numbered version && not (alike found version)) }
+{
+    version.number != 0 && found.is_none_or(|other| other.place() != version.place())
 }

@@ -7,7 +7,7 @@ use crate::types::{Place, Version};
 
 // Of the least point at or above the place's that has a version at or below its number, the newest such version.
 pub fn look<P: Part>(part: &P, place: Place) -> Option<Version>
-    ensures { P.Part.sound part.now → result ≡ look (P.Part.versions part.now) place.point place.number }
+    ensures { result ≡ look (P.Part.versions part.now) place.point place.number }
 {
     let mut from = place.point;
     while let Some(found) = part.first_from(Place {

@@ -3,7 +3,7 @@ use Rattle.version.specs.Lists.{look}
 use Rattle.version.proofs.scan.look.Given as goal
 
 abbrev pub invariant-loop-found : goal.invariant-loop-found
-invariant-loop-found g l = g.P.Part.sound l.part → look (g.P.Part.versions l.part) l.from l.place.number ≡ look (g.P.Part.versions l.part) l.place.point l.place.number
+invariant-loop-found g l = look (g.P.Part.versions l.part) l.from l.place.number ≡ look (g.P.Part.versions l.part) l.place.point l.place.number
 
 abbrev pub decreases-loop-found : goal.decreases-loop-found
 decreases-loop-found g l = 65536 - l.from

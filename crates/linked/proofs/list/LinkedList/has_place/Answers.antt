@@ -1,19 +1,9 @@
-use Rattle.std.proofs.Common.{◌≡◌, true, not, ◌&&◌, sym, ap, ◌∙◌, arith}
-use Rattle.std.proofs.lemmas.Bool.Decides.{nat_tests}
-use Rattle.version.specs.Lists.{held}
-use Rattle.version.specs.Order.{numbered}
-use Rattle.version.proofs.Sorts.{sorts}
-use Rattle.linked.specs.Chains.{versions, alike}
-use Rattle.linked.proofs.Gaps.{held_alike}
+use Rattle.std.proofs.Common.{◌∙◌}
+use Rattle.version.proofs.Takings.{free_found}
+use Rattle.linked.specs.Chains.{versions}
 use Rattle.linked.proofs.list.LinkedList.has_place.Goals as goal
 
-pub returns-then-version-ne0 : goal.returns-then-version-ne0
-returns-then-version-ne0 c =
+pub returns : goal.returns
+returns c =
     let l = c.args.self.now in
-    let v = c.args.version in
-    let vs = versions l.nodes.now l.first in
-    let same : c.is_alike.result ≡ held vs v =
-    c.is_alike.ensures ∙ ap (λ f. alike f v) (c.version_at-found.ensures ∙ c.requires.answer) ∙ sym (held_alike vs v (sorts vs l.chained.ordered)) in
-    let t = c.if-version-ne0.true in
-    let n : numbered v ≡ true = grind (arith, nat_tests) in
-    ap not same ∙ sym (ap (λ b. b && not (held vs v)) n)
+    free_found (versions l.nodes.now l.first) c.args.version l.chained.ordered c.version_at.result (c.version_at.ensures ∙ c.requires.answer) c.is_free.result c.is_free.ensures

@@ -1,52 +1,52 @@
-use Rattle.std.proofs.Common.{◌≡◌, ◌<◌, true, not, length, None}
+use Rattle.std.proofs.Common.{◌≡◌, ◌+◌, ◌<◌, true, not, length, None, sym, refl, subst, arith, rules}
 use Rattle.std.proofs.lemmas.Bool.{and_parts, not-true}
 use Rattle.version.specs.Lists.{held, memory_place}
 use Rattle.version.specs.Order.{numbered, place_of}
 use Rattle.version.specs.declared.types.Version.{Version}
-use Rattle.linked.specs.Chains.{chain, versions, gap_at}
+use Rattle.linked.specs.Chains.{Chained, chain, versions, gap_at}
 use Rattle.linked.specs.declared.list.LinkedList.{LinkedList}
 use Rattle.linked.specs.declared.node.Gap.{Gap}
-use Rattle.linked.proofs.Puts.{Open, put_aside, put_first, put_behind}
+use Rattle.linked.proofs.Puts.{Open, Grown, put_aside, put_first, put_behind}
 use Rattle.linked.proofs.list.LinkedList.link.Goals as goal
+use Rattle.linked.proofs.list.LinkedList.link.Goals.{in-Some, in-None}
 
 module _ (l : LinkedList) (g : Gap) (v : Version) where
   ready : g ≡ gap_at l.nodes.now (place_of v) None (chain l.nodes.now l.first) → memory_place (versions l.nodes.now l.first) v ≡ true → l.used < length l.nodes.now → Open l.nodes.now l.first v l.used g
   ready e p r =
       let vs = versions l.nodes.now l.first in
-      let both = and_parts (numbered v) (not (held vs v)) p in record {
-        stands = e;
-        chained = l.chained;
-        room = r;
-        proper = both.0;
-        free = not-true (held vs v) both.1;
-      }
+      let both = and_parts (numbered v) (not (held vs v)) p in
+      record { stands = e; chained = l.chained; room = r; proper = both.0; free = not-true (held vs v) both.1 }
 
-pub put_behind-requires-clause-aside : goal.put_behind-requires-clause-aside
-put_behind-requires-clause-aside c =
+pub invariant_of-self : goal.invariant_of-self
+invariant_of-self c =
     let l = c.args.self.now in
     let h = ready l c.args.gap c.args.version c.requires.gap c.requires.placed c.requires.room in
-    put_aside l.nodes.now l.first c.args.version l.used c.args.gap h c.args.gap.after
+    record { few = search rules; room = search rules; chained = put_aside l.nodes.now l.first c.args.version l.used c.args.gap h c.args.gap.after }
 
-pub put_behind-requires-clause-chained : goal.put_behind-requires-clause-chained
-put_behind-requires-clause-chained c =
+pub invariant_of-self-2 : goal.invariant_of-self-2
+invariant_of-self-2 c =
     let l = c.args.self.now in
-    let h = ready l c.args.gap c.args.version c.requires.gap c.requires.placed c.requires.room in
-    (put_behind l.nodes.now l.first c.args.version l.used c.args.gap h c.in-Some.i c.in-Some.is).chained
+    let v = c.args.version in
+    let h = ready l c.args.gap v c.requires.gap c.requires.placed c.requires.room in
+    let grown : Grown l.nodes.now l.first v l.used c.match-gap.self.1.0.now c.match-gap.self.1.1.1.0 × (c.match-gap.self.1.1.0 ≡ l.used) =
+    elim c.match-gap.branch [
+      | in-Some w ↦ subst (λ s. Grown l.nodes.now l.first v l.used s.1.0.now s.1.1.1.0 × (s.1.1.0 ≡ l.used)) (sym w.self-is) (put_behind l.nodes.now l.first v l.used c.args.gap h _ (search rules), refl)
+      | in-None w ↦ subst (λ s. Grown l.nodes.now l.first v l.used s.1.0.now s.1.1.1.0 × (s.1.1.0 ≡ l.used)) (sym w.self-is) (put_first l.nodes.now l.first v l.used c.args.gap h w.in-None.is, refl)
+    ] in
+    record {
+      few = omega (arith, grown.0.same, l.few);
+      room = omega (arith, grown.0.same, grown.1, c.requires.room);
+      chained = subst (λ n. Chained c.match-gap.self.1.0.now (n + 1) c.match-gap.self.1.1.1.0) (sym grown.1) grown.0.chained;
+    }
 
-pub put_first-requires-clause-chained : goal.put_first-requires-clause-chained
-put_first-requires-clause-chained c =
+pub returns-clause-list : goal.returns-clause-list
+returns-clause-list c =
     let l = c.args.self.now in
-    let h = ready l c.args.gap c.args.version c.requires.gap c.requires.placed c.requires.room in
-    (put_first l.nodes.now l.first c.args.version l.used c.args.gap h c.in-None.is).chained
-
-pub returns-in-Some-clause-list : goal.returns-in-Some-clause-list
-returns-in-Some-clause-list c =
-    let l = c.args.self.now in
-    let h = ready l c.args.gap c.args.version c.requires.gap c.requires.placed c.requires.room in
-    let list = (put_behind l.nodes.now l.first c.args.version l.used c.args.gap h c.in-Some.i c.in-Some.is).list in cc
-
-pub returns-in-None-clause-list : goal.returns-in-None-clause-list
-returns-in-None-clause-list c =
-    let l = c.args.self.now in
-    let h = ready l c.args.gap c.args.version c.requires.gap c.requires.placed c.requires.room in
-    let list = (put_first l.nodes.now l.first c.args.version l.used c.args.gap h c.in-None.is).list in cc
+    let v = c.args.version in
+    let h = ready l c.args.gap v c.requires.gap c.requires.placed c.requires.room in
+    let grown : Grown l.nodes.now l.first v l.used c.match-gap.self.1.0.now c.match-gap.self.1.1.1.0 =
+    elim c.match-gap.branch [
+      | in-Some w ↦ subst (λ s. Grown l.nodes.now l.first v l.used s.1.0.now s.1.1.1.0) (sym w.self-is) (put_behind l.nodes.now l.first v l.used c.args.gap h _ (search rules))
+      | in-None w ↦ subst (λ s. Grown l.nodes.now l.first v l.used s.1.0.now s.1.1.1.0) (sym w.self-is) (put_first l.nodes.now l.first v l.used c.args.gap h w.in-None.is)
+    ] in
+    grown.list

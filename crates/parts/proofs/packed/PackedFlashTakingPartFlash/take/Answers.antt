@@ -30,7 +30,7 @@ invariant_of-self c =
     record { roomy = roomy; counted = length_versions ys (s.used + 1); kept = kept; exact = exact }
 
 pub returns-clause-list : goal.returns-clause-list
-returns-clause-list c = λ _.
+returns-clause-list c =
     let s = c.args.self.now in
     let v = c.args.version in
     let vs = versions_in s.bytes.now s.used in

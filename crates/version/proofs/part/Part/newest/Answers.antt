@@ -5,7 +5,7 @@ use Rattle.version.proofs.Sorts.{sorts}
 use Rattle.version.proofs.part.Part.newest.Goals as goal
 
 pub returns : goal.returns
-returns g c = λ s.
+returns g c =
     let vs = g.Self.Part.versions c.args.self.now in
-    c.of_point.ensures ∙ ap (only c.args.place.point) (c.first_from.ensures.answer s)
-    ∙ sym (newest_is vs c.args.place.point c.args.place.number (sorts vs (g.met.Self.Part.kept c.args.self.now s).ordered))
+    c.of_point.ensures ∙ ap (only c.args.place.point) (c.first_from.ensures.answer)
+    ∙ sym (newest_is vs c.args.place.point c.args.place.number (sorts vs (g.met.Self.Part.kept c.args.self.now).ordered))

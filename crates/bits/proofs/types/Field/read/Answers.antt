@@ -2,13 +2,13 @@ use Rattle.std.proofs.Common.{◌≡◌, ◌+◌, ◌-◌, ◌*◌, ◌/◌, ◌
 use Rattle.std.proofs.lemmas.Nat.{one_shl}
 use Rattle.bits.specs.Fields.{field}
 use Rattle.bits.proofs.Numbers.{field_within}
-use Rattle.bits.proofs.read.read_field.Goals as goal
+use Rattle.bits.proofs.types.Field.read.Goals as goal
 
 pub returns-clause-value : goal.returns-clause-value
 returns-clause-value c =
     let xs = c.args.bytes.now in
-    let p = c.args.place in
-    let w = c.args.width in
+    let p = c.args.place + c.args.self.at in
+    let w = c.args.self.width in
     let r = 40 - p % 8 - w in
     let b = 8 * (p / 8) in
     let joined = c.if-first-bytes.joined in

@@ -4,7 +4,7 @@ use Rattle.std.proofs.lemmas.List.Edits.{length-insert, get_or-insert_below, get
 use Rattle.std.proofs.lemmas.List.{same_lists, length-set, length-take-le, get_or-set_same, get_or-set_other, get_or-take}
 use Rattle.std.proofs.lemmas.Bool.{cases_eq, cases_lt}
 use Rattle.version.specs.declared.types.Version.{Version}
-use Rattle.parts.proofs.table.insert_at.Goals as goal
+use Rattle.parts.proofs.table.Slots.insert.Goals as goal
 
 -- the version goes into the gap that the later ones have left
 filled : (xs ys : List Version) (at n : ℕ) (v : Version) → n < length xs → length xs ≡ length ys → at ≤ n
@@ -29,9 +29,9 @@ filled xs ys at n v l same h low high =
     (cases_eq k at))
     (cases_lt k at))
 
-pub returns : goal.returns
-returns c =
+pub returns-clause-list : goal.returns-clause-list
+returns-clause-list c =
     let moved = c.copy_within.ensures.by_index in
-    filled c.copy_within.new.self c.args.slots.now c.args.at c.args.used c.args.version (omega (arith, c.copy_within.ensures.len, c.requires.room)) c.copy_within.ensures.len c.requires.within
+    filled c.copy_within.new.self c.args.self.now.slots.now c.args.at c.args.self.now.used c.args.version (omega (arith, c.copy_within.ensures.len, c.requires.room)) c.copy_within.ensures.len c.requires.within
     (λ k d h. moved.1 k d (omega arith))
-    (λ k d h i. let back : c.args.at + (suc k - (c.args.at + 1)) ≡ k = omega arith in moved.0 (suc k) d (omega arith) (omega arith) ∙ ap (λ j. get_or c.args.slots.now j d) back)
+    (λ k d h i. let back : c.args.at + (suc k - (c.args.at + 1)) ≡ k = omega arith in moved.0 (suc k) d (omega arith) (omega arith) ∙ ap (λ j. get_or c.args.self.now.slots.now j d) back)
