@@ -82,7 +82,7 @@ field_byte xs a n byte =
     number_split (bit xs) (8 * a) (8 * n) 8 ∙ ap (λ v. field xs (8 * a) (8 * n) * 256 + v) (rw there (byte_is_field xs (a + n) byte))
 
 -- five bytes
-pub field_five : (xs : List ℕ) (a : ℕ) → ((i : ℕ) → get_or xs i 0 < 256)
+pub field_five : (xs : List ℕ) (a : ℕ) → get_or xs a 0 < 256 → get_or xs (a + 1) 0 < 256 → get_or xs (a + 2) 0 < 256 → get_or xs (a + 3) 0 < 256 → get_or xs (a + 4) 0 < 256
     → field xs (8 * a) 40 ≡ get_or xs a 0 * 2 ^ 32 + get_or xs (a + 1) 0 * 2 ^ 24 + get_or xs (a + 2) 0 * 2 ^ 16 + get_or xs (a + 3) 0 * 2 ^ 8 + get_or xs (a + 4) 0
-field_five xs a byte =
-    omega (arith, byte_is_field xs a (byte a), field_byte xs a 1 (byte (a + 1)), field_byte xs a 2 (byte (a + 2)), field_byte xs a 3 (byte (a + 3)), field_byte xs a 4 (byte (a + 4)))
+field_five xs a b0 b1 b2 b3 b4 =
+    omega (arith, byte_is_field xs a b0, field_byte xs a 1 b1, field_byte xs a 2 b2, field_byte xs a 3 b3, field_byte xs a 4 b4)

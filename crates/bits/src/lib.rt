@@ -9,3 +9,6 @@ mod write;
 
 // A field of a head or a record, read and written as a number or as a signed value: no other bit changes.
 pub use types::Field;
+
+// A signed value as the number that stands for it in a field, and back.
+pub use signed::{from_twos, to_twos};

@@ -49,8 +49,9 @@ impl fmt::Display for TwoDigits {
     ghost output = { λ b. Some (digits_of b.0) };
 
     fn fmt<W: fmt::Write>(&self, f: &mut fmt::Formatter<W>) -> fmt::Result {
-        f.write_char(char::from(digit_of(self.0 / 16)))?;
-        f.write_char(char::from(digit_of(self.0 % 16)))
+        let mut bytes = [0u8; 4];
+        f.write_str(char::from(digit_of(self.0 / 16)).encode_utf8(&mut bytes))?;
+        f.write_str(char::from(digit_of(self.0 % 16)).encode_utf8(&mut bytes))
     }
 }
 

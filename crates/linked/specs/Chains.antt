@@ -59,6 +59,20 @@ written ns k v o = slice_set ns k (record { version = v; next = o })
 abbrev pub turned : List Node → ℕ → ℕ → List Node
 turned ns p k = slice_set ns p (record { version = (node ns p).version; next = Some k })
 
+-- the node before a gap, if there is one, leads to k
+abbrev pub led : List Node → Option ℕ → ℕ → List Node
+led ns None k = ns
+led ns (Some p) k = turned ns p k
+
+-- the nodes once a node for v, at index k, was put into a gap: it leads to what stands behind the gap, and what stands before the gap leads to it
+abbrev pub put : List Node → ℕ → Version → Gap → List Node
+put ns k v g = led (written ns k v g.after) g.before k
+
+-- where a chain from o on begins then: at k, if nothing stands before the gap
+abbrev pub begins : Option ℕ → Option ℕ → ℕ → Option ℕ
+begins o None k = Some k
+begins o (Some p) k = o
+
 -- ---- what a link leads to
 
 -- an index, if there is one, is below a number

@@ -1,7 +1,7 @@
 // A part that chains its versions by index, in nodes that the caller lends. No version is ever moved.
 ghost use Rattle.std.specs.Prelude.{◌≡◌, ◌<◌, ◌≤◌, min, true, [], length, None};
 ghost use Rattle.std.proofs.Common.{rules};
-ghost use Rattle.linked.specs.Chains.{Chained, Within, chain, versions, gap_at, version_at};
+ghost use Rattle.linked.specs.Chains.{Chained, Within, begins, chain, versions, gap_at, put, version_at};
 ghost use Rattle.version.specs.Lists.{Reaches, first_from, insert, memory_place};
 ghost use Rattle.version.specs.Order.{place_of};
 
@@ -67,6 +67,7 @@ impl<'a> LinkedList<'a> {
     }
 
     // Whether the version, which stands in the gap, is numbered, and none has its point and number already.
+    #[tactic(auto, using(version::proofs::Takings::free_found))]
     fn has_place(&self, gap: Gap, version: Version) -> bool
         requires after { Within (length self.now.nodes.now) gap.after }
         requires answer { version_at self.now.nodes.now gap.after ≡ first_from (versions self.now.nodes.now self.now.first) (place_of version) }
@@ -83,6 +84,8 @@ impl<'a> LinkedList<'a> {
         requires room { self.old.used < length self.old.nodes.now }
         ensures list { versions self.new.nodes.now self.new.first ≡ insert (versions self.old.nodes.now self.old.first) version }
         ensures same { length self.new.nodes.now ≡ length self.old.nodes.now }
+        ensures nodes { self.new.nodes.now ≡ put self.old.nodes.now self.old.used version gap }
+        ensures first { self.new.first ≡ begins self.old.first gap.before self.old.used }
     {
         let link = Some(self.used as u16);
         self.nodes[self.used] = Node {

@@ -7,8 +7,8 @@ use Rattle.std.proofs.lemmas.Bool.Decides.{nat_tests}
 use Rattle.std.specs.List.{find}
 use Rattle.std.proofs.lemmas.Option.{none-some, same_Some}
 use Rattle.version.specs.Lists.{newest, first_from, only, Reaches, look}
-use Rattle.version.specs.Order.{ahead, place_of, before}
-use Rattle.version.proofs.Sorts.{◌∈◌, Sorted}
+use Rattle.version.specs.Order.{ahead, place_of, before, sorted}
+use Rattle.version.proofs.Sorts.{◌∈◌, Sorted, sorts}
 use Rattle.version.specs.declared.types.Place.{Place}
 use Rattle.version.specs.declared.types.Version.{Version}
 
@@ -99,6 +99,10 @@ newest_is vs p n s = go (first_from vs (place p n)) refl
         cond_both (eqb v.point p) (Some v) None (λ r. newest vs p n ≡ r)
         (λ q. let g : of_point p n v ≡ true = grind (arith, nat_tests) in narrow_some (from (place p n)) (of_point p n) (of_point_narrow p n) vs v e g)
         (λ q. let g : of_point p n v ≡ false = grind (arith, nat_tests) in narrow_past (from (place p n)) (of_point p n) (of_point_narrow p n) vs v s e g (λ w b. grind (arith, nat_tests)))
+
+-- so of versions in order, what is found from a place on tells the newest of its point at or below its number
+pub newest_found : (vs : List Version) (a : Place) → sorted vs ≡ true → (o : Option Version) → o ≡ first_from vs a → (r : Option Version) → r ≡ only a.point o → r ≡ newest vs a.point a.number
+newest_found vs a s o is r e = e ∙ ap (only a.point) is ∙ sym (newest_is vs a.point a.number (sorts vs s))
 
 -- what is found stands where it was asked for
 pub reaches_is : (vs : List Version) (a : Place) (r : Option Version) → r ≡ first_from vs a → Reaches a r
