@@ -88,10 +88,7 @@ impl<'a> LinkedList<'a> {
         ensures first { self.new.first ≡ begins self.old.first gap.before self.old.used }
     {
         let link = Some(self.used as u16);
-        self.nodes[self.used] = Node {
-            version,
-            next: gap.after,
-        };
+        self.nodes[self.used] = gap.node(version);
         match gap.before {
             Some(before) => self.nodes[before as usize].next = link,
             None => self.first = link,

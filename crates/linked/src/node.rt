@@ -1,4 +1,6 @@
 // A version in a chain, and a gap between two that stand next to each other there.
+ghost use Rattle.std.specs.Prelude.{◌≡◌};
+
 use version::Version;
 
 // A version, with the index of the one behind it, if any.
@@ -21,4 +23,16 @@ impl Node {
 pub(crate) struct Gap {
     pub before: Option<u16>,
     pub after: Option<u16>,
+}
+
+impl Gap {
+    // The node of a version that goes into the gap: it leads to what stands behind.
+    pub(crate) fn node(self, version: Version) -> Node
+        ensures { result ≡ record { version = version; next = self.after } }
+    {
+        Node {
+            version,
+            next: self.after,
+        }
+    }
 }
