@@ -49,6 +49,7 @@ impl fmt::Display for TwoDigits {
     ghost output = { λ b. Some (digits_of b.0) };
 
     fn fmt<W: fmt::Write>(&self, f: &mut fmt::Formatter<W>) -> fmt::Result {
+        // as text, since `write_char` is a call for each digit
         let mut bytes = [0u8; 4];
         f.write_str(char::from(digit_of(self.0 / 16)).encode_utf8(&mut bytes))?;
         f.write_str(char::from(digit_of(self.0 % 16)).encode_utf8(&mut bytes))
